@@ -1,7 +1,8 @@
 //! The text and the options of a glob, before it is read.
 
-ghost use Rattle.std.specs.Prelude.{◌≡◌, IfOk, IfErr};
+ghost use Rattle.std.specs.Prelude.{◌≡◌, IfOk, IfErr, ⊤};
 ghost use Rattle.glob_text.specs.Errors.{IsParseErrorOf};
+ghost use Rattle.glob_text.specs.GlobMatches.{IsRead, default_glob};
 
 use crate::glob::Glob;
 use glob_syntax::Options;
@@ -34,8 +35,6 @@ impl<'a> Model for GlobBuilder<'a> {
 }
 
 impl<'a> GlobBuilder<'a> {
-    ghost use Rattle.glob_text.specs.GlobMatches.{IsRead, default_glob};
-
     /// Returns a builder with this text and the default options: `backslash_escape` is on, and the others are off.
     pub fn new(text: &'a str) -> GlobBuilder<'a>
         ensures { result ≡ default_glob text.now }
@@ -161,8 +160,6 @@ impl<'a> GlobBuilder<'a> {
 
 /// A builder with the same text and options. It allocates nothing, and cannot fail.
 impl<'a> Clone for GlobBuilder<'a> {
-    ghost use Rattle.std.specs.Prelude.{◌≡◌, ⊤};
-
     ghost is_clone = { λ b c. c ≡ b };
 
     ghost is_infallible = { λ _. ⊤ };

@@ -4,6 +4,12 @@ ghost use Rattle.std.specs.Prelude.{◌≡◌, ◌==◌, ◌≤◌, ◌*◌, ◌
 ghost use Rattle.std.specs.Cmp.{partial_equiv_from_equiv};
 ghost use Rattle.std.specs.Fmt.{styled_text};
 ghost use Rattle.std.specs.Hash as fed;
+ghost use Rattle.std.specs.Str.{chars};
+ghost use Rattle.glob_syntax.specs.Reading.{reading};
+ghost use Rattle.glob_syntax.specs.FlatTokens.{IsNested};
+ghost use Rattle.glob_syntax.specs.StatesPerByte.{states_per_byte};
+ghost use Rattle.glob_syntax.specs.Views.{flats, tokens_of};
+ghost use Rattle.glob_syntax.specs.inner.Weight.{weight};
 ghost use Rattle.std.specs.Hash.{and-Alike, on_Alike, same_Alike};
 ghost use Rattle.std.proofs.lemmas.Cmp.{and_equiv, on_equiv, nat_list_eq_equiv};
 ghost use Rattle.std.proofs.lemmas.Slice.Eq.{bytes_eq-Decides};
@@ -36,23 +42,12 @@ use std::marker::Model;
 /// assert!(rt; glob == Glob::new(alloc, "src/*.rs")?);
 /// assert!(rt; glob != GlobBuilder::new("src/*.rs").literal_separator(true).build(alloc)?);
 /// ```
+#[derive(Drop)]
 pub struct Glob {
     text: String,
     options: Options,
     tokens: Vec<Token>,
     regex: String,
-}
-
-impl Drop for Glob {
-    // One call wherever a value is dropped, which keeps proofs short.
-    fn drop(self) {
-        let Glob {
-            text: _,
-            options: _,
-            tokens: _,
-            regex: _,
-        } = self;
-    }
 }
 
 impl Model for Glob {
@@ -177,16 +172,6 @@ impl Glob {
     {
         GlobMatcher::new(self.clone()?, dfa_size_limit)
     }
-}
-
-impl Glob {
-    ghost use Rattle.std.specs.Str.{chars};
-    ghost use Rattle.glob_text.specs.GlobMatches.{IsRead};
-    ghost use Rattle.glob_syntax.specs.Reading.{reading};
-    ghost use Rattle.glob_syntax.specs.FlatTokens.{IsNested};
-    ghost use Rattle.glob_syntax.specs.StatesPerByte.{states_per_byte};
-    ghost use Rattle.glob_syntax.specs.Views.{flats, tokens_of};
-    ghost use Rattle.glob_syntax.specs.inner.Weight.{weight};
 
     /// Reads a text under these options.
     pub(crate) fn read(alloc: Global, options: Options, text: &str) -> Result<Glob, Error>
@@ -203,30 +188,6 @@ impl Glob {
             tokens,
             regex,
         })
-    }
-
-    /// Returns the text that the glob was read from, as it is held.
-    pub(crate) fn text(&self) -> &String
-        ensures { string_bytes result.now ≡ self.now.text }
-    {
-        &self.text
-    }
-
-    /// Returns the tokens that the text was read as.
-    pub(crate) fn tokens(&self) -> &[Token]
-        ensures read { reading self.now.options (chars self.now.text) ≡ Ok (tokens_of result.now) }
-        ensures nested { IsNested (flats result.now) }
-        ensures weight { weight self.now.options (tokens_of result.now)
-            ≤ states_per_byte self.now.options * length self.now.text }
-    {
-        &self.tokens
-    }
-
-    /// Returns the options that the glob was read under.
-    pub(crate) fn options(&self) -> Options
-        ensures { result ≡ self.now.options }
-    {
-        self.options
     }
 
     /// Returns the allocator that holds the glob.
@@ -248,6 +209,31 @@ impl Clone for Glob {
             regex: self.regex.clone()?,
         })
     }
+}
+
+/// Returns the tokens that the glob's text was read as under its options.
+pub fn tokens_of(glob: &Glob) -> &[Token]
+    ensures read { reading glob.now.options (chars glob.now.text) ≡ Ok (tokens_of result.now) }
+    ensures tokens { tokens_of_glob glob.now ≡ tokens_of result.now }
+    ensures nested { IsNested (flats result.now) }
+    ensures weight { weight glob.now.options (tokens_of result.now)
+        ≤ states_per_byte glob.now.options * length glob.now.text }
+{
+    &glob.tokens
+}
+
+/// Returns the text that the glob was read from.
+pub fn text_of(glob: &Glob) -> &String
+    ensures { string_bytes result.now ≡ glob.now.text }
+{
+    &glob.text
+}
+
+/// Returns the options that the glob was read under.
+pub fn options_of(glob: &Glob) -> Options
+    ensures { result ≡ glob.now.options }
+{
+    glob.options
 }
 
 /// Globs are equal if their texts and their options are. Equal globs have the same tokens and match the same paths. It

@@ -9,7 +9,7 @@ ghost use Rattle.globset_glob.specs.Values.{glob_of_value, of_text, value_of_glo
 
 mod object;
 
-use crate::glob::Glob;
+use crate::glob::{Glob, options_of};
 use glob_syntax::Options;
 use glob_text::{Error, ValueError, ValueErrorKind};
 use object::{members_text_and_options, value_of};
@@ -37,7 +37,7 @@ impl Glob {
         ensures read_back { IfOk result (λ value. glob_of_value (view value) ≡ Ok self.now) }
         ensures err { IsOkUnless result out_of_memory }
     {
-        Ok(value_of(self.allocator(), self.glob(), self.options())?)
+        Ok(value_of(self.allocator(), self.glob(), options_of(self))?)
     }
 
     /// Reads a glob from a JSON value: a text, which is read under the default options, as by [`Glob::new`], or an object.

@@ -3,16 +3,14 @@
 
 mod builder;
 mod glob;
-mod internal;
 mod json;
 mod matcher;
 
 pub use bit_sets::Visits;
 pub use builder::GlobBuilder;
-pub use glob::Glob;
+pub use glob::{Glob, options_of, text_of, tokens_of};
 pub use glob_matching::{DEFAULT_DFA_SIZE_LIMIT, NeedsScratch, Scratch};
 pub use glob_path::{AsPath, Candidate};
 pub use glob_syntax::{Class, Options, Token};
 pub use glob_text::{Error, ErrorKind, ValueError, ValueErrorKind, escape};
-pub use internal::{options_of, text_of, tokens_of};
 pub use matcher::{GlobMatcher, MatcherSearcher};

@@ -10,7 +10,7 @@ ghost use Rattle.globset_glob.specs.GlobBelow.{GlobMatchesBelow};
 mod searcher;
 mod strategy;
 
-use crate::glob::Glob;
+use crate::glob::{Glob, options_of};
 use bit_sets::Visits;
 use glob_matching::{NeedsScratch, Scratch};
 use glob_path::{AsPath, Candidate};
@@ -37,19 +37,10 @@ use strategy::Strategy;
 /// assert!(rt; !matcher.is_match("docs")?);
 /// assert_eq!(rt; matcher.glob().glob(), "docs/**");
 /// ```
+#[derive(Drop)]
 pub struct GlobMatcher {
     glob: Glob,
     strategy: Strategy,
-}
-
-impl Drop for GlobMatcher {
-    // One call wherever a value is dropped, which keeps proofs short.
-    fn drop(self) {
-        let GlobMatcher {
-            glob: _,
-            strategy: _,
-        } = self;
-    }
 }
 
 impl Model for GlobMatcher {
@@ -255,7 +246,7 @@ impl NeedsScratch for GlobMatcher {
     ghost indexes = { λ _. 0 };
 
     fn states_needed(&self) -> Option<usize> {
-        let per_byte: usize = if self.glob.options().whole_character {
+        let per_byte: usize = if options_of(&self.glob).whole_character {
             16
         } else {
             4

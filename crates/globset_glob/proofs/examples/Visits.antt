@@ -4,20 +4,16 @@ use Rattle.std.specs.Prelude.{◌≡◌, ◌+◌, ◌*◌, [], ◌∷◌, refl}
 use Rattle.glob_syntax.specs.declared.options.TheConstants.Options.{DEFAULT}
 use Rattle.glob_text.specs.Cost.{cost, max_visits}
 use Rattle.glob_text.proofs.examples.Unfoldings.{glob_on_literals}
-use Rattle.glob_syntax.proofs.examples.Words.{whole}
+use Rattle.glob_syntax.proofs.examples.Words.{AreEqual, whole}
 use Rattle.glob_text.proofs.examples.Words.{utf8, glob_of}
 
-visits_of_eight_stars : max_visits (glob_of DEFAULT "a*a*a*a*a*a*a*a*a") (utf8 "aaaaaaaaa") ≡ 720
+max_visits_rows : AreEqual (
+    (max_visits (glob_of DEFAULT "a*a*a*a*a*a*a*a*a") (utf8 "aaaaaaaaa"), 720)  -- visits of eight stars
+    ∷ (max_visits (glob_of DEFAULT "é") (utf8 "☃"), 48)  -- visits count bytes
+    ∷ (max_visits (glob_of DEFAULT "") (utf8 ""), 4)  -- visits of empty texts
+    ∷ [])
 unfolding glob_on_literals
-visits_of_eight_stars = refl
-
-visits_count_bytes : max_visits (glob_of DEFAULT "é") (utf8 "☃") ≡ 48
-unfolding glob_on_literals
-visits_count_bytes = refl
-
-visits_of_empty_texts : max_visits (glob_of DEFAULT "") (utf8 "") ≡ 4
-unfolding glob_on_literals
-visits_of_empty_texts = refl
+max_visits_rows = refl
 
 visits_of_many_stars : (1000 + 1) * cost (glob_of DEFAULT "*a*a*a*a*a*a*a*b") ≡ 68068
 unfolding glob_on_literals

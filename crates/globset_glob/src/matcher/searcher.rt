@@ -32,6 +32,7 @@ use std::marker::Model;
 /// assert!(rt; searcher.is_match(&Candidate::new("a/foo")));
 /// assert!(rt; !searcher.is_match(&Candidate::new("a/fo")));
 /// ```
+#[derive(Drop)]
 pub struct MatcherSearcher {
     matcher: GlobMatcher,
     /// That of the matcher, once more: contracts see a matcher as its glob, and the cache is of an automaton.
@@ -39,18 +40,6 @@ pub struct MatcherSearcher {
     sets: StateSets,
     /// `None` if a key decides, or the automaton has no rows.
     cache: Option<RowCache>,
-}
-
-impl Drop for MatcherSearcher {
-    // One call wherever a value is dropped, which keeps proofs short.
-    fn drop(self) {
-        let MatcherSearcher {
-            matcher: _,
-            strategy: _,
-            sets: _,
-            cache: _,
-        } = self;
-    }
 }
 
 impl Model for MatcherSearcher {

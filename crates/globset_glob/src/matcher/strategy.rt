@@ -7,7 +7,7 @@ ghost use Rattle.globset_glob.specs.GlobBelow.{GlobMatchesBelow};
 ghost use Rattle.glob_text.specs.GlobMatches.{GlobValue, glob_matches};
 ghost use Rattle.globset_glob.specs.inner.GlobNfa.{IsAutomatonOf, IsCacheOf, IsStrategyOfMatcher, form_states};
 
-use crate::glob::Glob;
+use crate::glob::{Glob, options_of, tokens_of};
 use bit_sets::Visits;
 use glob_matching::{Compiled, DEFAULT_DFA_SIZE_LIMIT, RowCache};
 use glob_nfa::{add_tokens, new_builder};
@@ -34,8 +34,8 @@ impl Strategy {
     {
         if let MatchStrategy::Key(key) = strategy_of(
             glob.allocator(),
-            glob.options(),
-            glob.tokens(),
+            options_of(glob),
+            tokens_of(glob),
         )? {
             return Ok(Strategy::Key(key));
         }
@@ -163,7 +163,7 @@ fn automaton_of(glob: &Glob, dfa_size_limit: usize) -> Result<Compiled, AllocErr
 {
     let alloc = glob.allocator();
     let mut builder = new_builder(alloc, 1);
-    add_tokens(alloc, &mut builder, glob.options(), glob.tokens(), 0)?;
+    add_tokens(alloc, &mut builder, options_of(glob), tokens_of(glob), 0)?;
     let automaton = builder.finish();
     let states = automaton.state_count();
     Compiled::new(alloc, dfa_size_limit, automaton, states)
