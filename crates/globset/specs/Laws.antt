@@ -3,9 +3,9 @@ use Rattle.std.specs.Prelude.{◌≡◌, ◌≢◌, ℕ, ◌<◌, ◌↔◌, fal
 use Rattle.globset_glob.specs.GlobMatches.{GlobValue, glob_matches}
 use Rattle.globset_glob.specs.Texts.{AllBytes}
 use Rattle.glob_path.specs.Below.{path_below}
-use Rattle.globset_set.specs.Excluded.{excluded, is_reported}
-use Rattle.globset_set.specs.Answer.{matching_indexes}
-use Rattle.globset_set.specs.Below.{MatchesBelow}
+use Rattle.set_matcher.specs.Excluded.{excluded, is_reported}
+use Rattle.set_matcher.specs.Answer.{matching_indexes}
+use Rattle.set_matcher.specs.Below.{MatchesBelow}
 
 -- One more glob after the others: if it is reported, its index is added at the end, and otherwise nothing changes.
 abbrev pub AddKeeps : Type 0

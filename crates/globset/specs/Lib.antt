@@ -4,10 +4,10 @@ pub mod SetFromValue
 pub mod Lending
 pub mod Laws
 pub mod inner
-pub use Rattle.globset_set.specs.Excluded
-pub use Rattle.globset_set.specs.Answer
-pub use Rattle.globset_set.specs.Below
-pub use Rattle.globset_set.specs.Work
+pub use Rattle.set_matcher.specs.Excluded
+pub use Rattle.set_matcher.specs.Answer
+pub use Rattle.set_matcher.specs.Below
+pub use Rattle.set_matcher.specs.Work
 pub use Rattle.set_matcher.specs.Indexes
 pub use Rattle.set_matcher.specs.Visits
 pub use Rattle.globset_glob.specs.Token

@@ -2,7 +2,7 @@
 use Rattle.std.specs.Prelude.{List, length}
 use Rattle.globset_glob.specs.GlobMatches.{GlobValue}
 pub use Rattle.glob_matching.specs.ScratchValue.{FitsAsBefore, FitsMatcher, HasCapacity, ScratchValue, raised}
-pub use Rattle.globset_set.specs.SetValue.{SetValue, set_globs, set_states}
+pub use Rattle.set_matcher.specs.SetValue.{SetValue, set_globs, set_states}
 
 -- A builder is seen as the list of the globs that were added, the first first.
 abbrev pub BuilderValue : Type 0

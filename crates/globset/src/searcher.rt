@@ -2,15 +2,15 @@
 
 ghost use Rattle.std.specs.Prelude.{◌≡◌, ◌≢◌, ◌+◌, ◌≤◌, ◌↔◌, [], IfOk, IsOkUnless, IsTrue, length};
 ghost use Rattle.globset_glob.specs.Errors.{out_of_memory};
-ghost use Rattle.globset_set.specs.Answer.{matching_indexes};
-ghost use Rattle.globset_set.specs.Below.{MatchesBelow};
-ghost use Rattle.globset_set.specs.Work.{max_set_visits, max_set_visits_below};
+ghost use Rattle.set_matcher.specs.Answer.{matching_indexes};
+ghost use Rattle.set_matcher.specs.Below.{MatchesBelow};
+ghost use Rattle.set_matcher.specs.Work.{max_set_visits, max_set_visits_below};
 ghost use Rattle.set_matcher.specs.Indexes.{ContainsAllBelow};
 ghost use Rattle.globset.specs.SetValue.{set_globs};
 
 use crate::set::GlobSet;
 use globset_glob::{Candidate, Error, Visits};
-use globset_set::StoredSearcher;
+use set_matcher::StoredSearcher;
 use std::alloc::Global;
 use std::marker::Model;
 use std::mem;

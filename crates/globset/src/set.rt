@@ -18,7 +18,7 @@ mod with;
 use crate::builder::GlobSetBuilder;
 use crate::set::storing::{stored_of_globs, stored_of_references, stored_of_slice};
 use globset_glob::{Error, Glob};
-use globset_set::Stored;
+use set_matcher::Stored;
 use std::alloc::{AllocError, Global};
 use std::fmt;
 use std::marker::Model;

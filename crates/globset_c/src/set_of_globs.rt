@@ -13,7 +13,7 @@ use crate::owned::Owned;
 use crate::status::{DONE, OUT_OF_MEMORY, Status, WRONG_KIND};
 use globset::{DEFAULT_DFA_SIZE_LIMIT, GlobSet};
 use globset_glob::{options_of, text_of, tokens_of};
-use globset_set::StoredBuilder;
+use set_matcher::StoredBuilder;
 use std::alloc::{AllocError, Global};
 
 /// Makes the set of globs that are lent, in their order, and lets the caller own it. The globs are read, and not copied.

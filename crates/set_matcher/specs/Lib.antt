@@ -1,6 +1,9 @@
+pub mod Excluded
+pub mod Answer
+pub mod Below
+pub mod Work
+pub mod SetValue
 pub mod Indexes
 pub mod Visits
-pub mod Globs
-pub mod Below
 pub mod SetMatcherValue
 pub mod inner

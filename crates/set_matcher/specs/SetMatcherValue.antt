@@ -1,6 +1,6 @@
 -- Set matchers and their builders as contracts see them.
 use Rattle.std.specs.Prelude.{ℕ, List}
-use Rattle.set_matcher.specs.Globs.{FlatGlob, TokenGlob, token_globs}
+use Rattle.set_matcher.specs.inner.TokenGlobs.{FlatGlob, TokenGlob, token_globs}
 use Rattle.set_matcher.specs.inner.Automata.{AutomataParts}
 
 -- The globs, in the order in which they were added; the number that each index is below, which is how many globs may be added;

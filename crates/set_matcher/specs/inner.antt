@@ -6,3 +6,7 @@ pub mod PathPart
 pub mod SetMatcher
 pub mod ExtensionSlots
 pub mod Caches
+pub mod StoredGlobs
+pub mod StoredValue
+pub mod TokenGlobs
+pub mod TokensBelow

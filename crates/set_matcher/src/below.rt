@@ -2,7 +2,7 @@
 
 ghost use Rattle.std.specs.Prelude.{◌≡◌, ◌+◌, ◌≤◌, ◌↔◌, IfOk, IsOk, IsTrue};
 ghost use Rattle.glob_matching.specs.ScratchValue.{HasCapacity};
-ghost use Rattle.set_matcher.specs.Below.{SomeReportedBelow, load_below, max_visits_below};
+ghost use Rattle.set_matcher.specs.inner.TokensBelow.{SomeReportedBelow, load_below, max_visits_below};
 ghost use Rattle.set_matcher.specs.SetMatcherValue.{matcher_globs};
 ghost use Rattle.set_matcher.specs.inner.Caches.{AreCachesOf};
 

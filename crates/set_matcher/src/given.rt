@@ -25,7 +25,7 @@ pub struct GivenGlobs {
 
 impl Model for GivenGlobs {
     ghost use Rattle.std.specs.Prelude.{List};
-    ghost use Rattle.set_matcher.specs.Globs.{FlatGlob};
+    ghost use Rattle.set_matcher.specs.inner.TokenGlobs.{FlatGlob};
 
     ghost Value = { List FlatGlob };
 
@@ -36,7 +36,7 @@ impl Model for GivenGlobs {
 
 impl GivenGlobs {
     ghost use Rattle.std.specs.Prelude.{◌≡◌, ◌++◌, ◌∷◌, []};
-    ghost use Rattle.set_matcher.specs.Globs.{flat_glob};
+    ghost use Rattle.set_matcher.specs.inner.TokenGlobs.{flat_glob};
 
     /// Returns a list of no globs.
     pub fn new() -> GivenGlobs

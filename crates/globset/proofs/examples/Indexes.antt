@@ -1,6 +1,6 @@
 -- Examples of the indexes that a set returns for a path. Each row computes.
 use Rattle.std.specs.Prelude.{◌≡◌, [], ◌∷◌, true, false, Some, refl}
-use Rattle.globset_set.specs.Work.{max_set_visits}
+use Rattle.set_matcher.specs.Work.{max_set_visits}
 use Rattle.globset.proofs.examples.Words.{globs_on_literals, utf8, glob, insensitive, separated, globs, indexes, all_reported}
 
 extension_and_recursive : indexes (globs ("*.rs" ∷ "src/lib.rs" ∷ "src/**/foo.rs" ∷ [])) "src/bar/baz/foo.rs" ≡ Some (0 ∷ 2 ∷ [])

@@ -10,9 +10,9 @@ use Rattle.globset_glob.specs.Nesting.{nested}
 use Rattle.globset_glob.specs.Stars.{piece}
 use Rattle.globset_glob.specs.Reading.{reading, whole, levels}
 use Rattle.globset_glob.specs.GlobMatches.{GlobValue, default_options, default_glob, tokens_of_glob, glob_matches}
-use Rattle.globset_set.specs.Answer.{matching_indexes}
+use Rattle.set_matcher.specs.Answer.{matching_indexes}
 use Rattle.glob_strategy.specs.Direct.{is_direct, needs_automaton}
-use Rattle.globset_set.specs.Excluded.{excluded}
+use Rattle.set_matcher.specs.Excluded.{excluded}
 
 -- What a proof unfolds to compute `excluded` and `matching_indexes` of globs that are written out.
 unfoldable pub globs_on_literals : Unit {0}

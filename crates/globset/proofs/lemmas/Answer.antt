@@ -3,10 +3,10 @@ use Rattle.std.proofs.Common.{◌≡◌, ℕ, List, [], Option, Some, refl, sym,
 use Rattle.std.specs.Prelude.{◌≢◌, ◌↔◌, IsTrue, false}
 use Rattle.glob_path.specs.Below.{path_below}
 use Rattle.globset_glob.specs.GlobMatches.{GlobValue}
-use Rattle.globset_set.specs.Answer.{matching_indexes}
-use Rattle.globset_set.specs.Below.{MatchesBelow}
-use Rattle.globset_set.specs.SetValue.{SetValue, set_globs}
-use Rattle.globset_set.specs.inner.StoredValue.{StoredValue}
+use Rattle.set_matcher.specs.Answer.{matching_indexes}
+use Rattle.set_matcher.specs.Below.{MatchesBelow}
+use Rattle.set_matcher.specs.SetValue.{SetValue, set_globs}
+use Rattle.set_matcher.specs.inner.StoredValue.{StoredValue}
 use Rattle.globset.specs.inner.StoredSet.{HasGlobs}
 
 pub answer_of_none : (globs : List GlobValue) (path : List ℕ) → globs ≡ [] → [] ≡ matching_indexes globs path

@@ -6,8 +6,8 @@ use Rattle.std.proofs.lemmas.List.{append_assoc}
 use Rattle.std.specs.Option.{option_map_or}
 use Rattle.globset_glob.specs.GlobMatches.{GlobValue}
 use Rattle.globset_glob.specs.Texts.{AllBytes}
-use Rattle.globset_set.specs.Excluded.{is_reported}
-use Rattle.globset_set.specs.Answer.{matching_indexes}
+use Rattle.set_matcher.specs.Excluded.{is_reported}
+use Rattle.set_matcher.specs.Answer.{matching_indexes}
 use Rattle.set_matcher.specs.Indexes.{passes_at}
 use Rattle.globset.specs.Laws.{AddKeeps, OrderRenames, OneGlobSet, BelowHasPaths, BelowEnds}
 use Rattle.set_matcher.proofs.lemmas.Indexes.{filter_more, passing_is_contained, contained_passes, passes_within}

@@ -4,7 +4,7 @@ use Rattle.std.proofs.Crossing.{crosses}
 use Rattle.globset_glob.specs.contracts.glob.Glob as Glob
 use Rattle.globset_glob.specs.contracts.matcher.GlobMatcher as GlobMatcher
 use Rattle.glob_matching.proofs.lemmas.Shared.{compiled-send, compiled-sync, row_cache-send, row_cache-sync}
-use Rattle.globset_set.proofs.lemmas.Shared.{stored-send, stored-sync, stored_searcher-send, stored_searcher-sync}
+use Rattle.set_matcher.proofs.lemmas.StoredShared.{stored-send, stored-sync, stored_searcher-send, stored_searcher-sync}
 use Rattle.globset_glob.specs.contracts.matcher.searcher.MatcherSearcher as MatcherSearcher
 use Rattle.globset.specs.contracts.set.GlobSet as GlobSet
 use Rattle.globset.specs.contracts.searcher.Searcher as Searcher

@@ -1,7 +1,7 @@
 -- The value of a set, by what the set stores. No contract cites this.
 use Rattle.std.specs.Prelude.{◌≢◌, [], Option, None, Some, ⊤}
-use Rattle.globset_set.specs.SetValue.{SetValue, set_globs}
-use Rattle.globset_set.specs.inner.StoredValue.{StoredValue}
+use Rattle.set_matcher.specs.SetValue.{SetValue, set_globs}
+use Rattle.set_matcher.specs.inner.StoredValue.{StoredValue}
 
 -- no globs and no states where nothing is stored, as in `GlobSet::empty`, and otherwise the set of what is stored
 abbrev pub stored_set : Option StoredValue → SetValue

@@ -2,10 +2,10 @@
 
 ghost use Rattle.std.specs.Prelude.{◌≡◌, ◌+◌, ◌≤◌, ◌↔◌, [], IfOk, IsOk, IsOkUnless, IsTrue, length};
 ghost use Rattle.globset_glob.specs.Errors.{out_of_memory};
-ghost use Rattle.globset_set.specs.Answer.{matching_indexes};
+ghost use Rattle.set_matcher.specs.Answer.{matching_indexes};
 ghost use Rattle.set_matcher.specs.Indexes.{ContainsAllBelow};
 ghost use Rattle.globset.specs.SetValue.{set_globs};
-ghost use Rattle.globset_set.specs.Work.{load, max_set_visits};
+ghost use Rattle.set_matcher.specs.Work.{load, max_set_visits};
 
 use crate::set::GlobSet;
 use globset_glob::{AsPath, Candidate, Error, Visits};

@@ -2,9 +2,9 @@
 
 ghost use Rattle.std.specs.Prelude.{◌≡◌, ◌+◌, ◌≤◌, ◌↔◌, [], IfOk, IsOk, IsOkUnless, IsTrue};
 ghost use Rattle.globset_glob.specs.Errors.{out_of_memory};
-ghost use Rattle.globset_set.specs.Below.{MatchesBelow};
+ghost use Rattle.set_matcher.specs.Below.{MatchesBelow};
 ghost use Rattle.globset.specs.SetValue.{Fits, set_globs};
-ghost use Rattle.globset_set.specs.Work.{load_below, max_set_visits_below};
+ghost use Rattle.set_matcher.specs.Work.{load_below, max_set_visits_below};
 
 use crate::set::GlobSet;
 use globset_glob::{AsPath, Candidate, Error, Scratch, Visits};

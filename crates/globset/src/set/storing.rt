@@ -2,10 +2,10 @@
 
 ghost use Rattle.std.specs.Prelude.{◌≡◌, ◌<◌, ◌++◌, ◌∷◌, [], IfOk, IsOkUnless, OnOk, OnErr, length, map};
 ghost use Rattle.globset_glob.specs.Errors.{out_of_memory};
-ghost use Rattle.globset_set.specs.SetValue.{set_globs};
+ghost use Rattle.set_matcher.specs.SetValue.{set_globs};
 
 use globset_glob::{DEFAULT_DFA_SIZE_LIMIT, Error, Glob, options_of, text_of, tokens_of};
-use globset_set::{Stored, StoredBuilder};
+use set_matcher::{Stored, StoredBuilder};
 use std::alloc::{AllocError, Global};
 
 /// Adds a glob after those that were added. It takes time and memory linear in the glob's text. Returns an error if memory runs

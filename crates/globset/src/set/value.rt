@@ -10,8 +10,8 @@ use crate::set::GlobSet;
 use crate::set::storing::add;
 use glob_text::error_of_element;
 use globset_glob::{DEFAULT_DFA_SIZE_LIMIT, Glob, ValueError, ValueErrorKind};
-use globset_set::{Stored, StoredBuilder};
 use serde_json::Value;
+use set_matcher::{Stored, StoredBuilder};
 use std::alloc::Global;
 
 impl GlobSet {

@@ -2,10 +2,10 @@
 
 ghost use Rattle.std.specs.Prelude.{◌≡◌, ◌≢◌, ◌+◌, ◌≤◌, ◌↔◌, [], IsOk, IsOkUnless, OnOk, OnErr, IsTrue, length, vec_capacity};
 ghost use Rattle.globset_glob.specs.Errors.{out_of_memory};
-ghost use Rattle.globset_set.specs.Answer.{matching_indexes};
+ghost use Rattle.set_matcher.specs.Answer.{matching_indexes};
 ghost use Rattle.set_matcher.specs.Indexes.{ContainsAllBelow};
 ghost use Rattle.globset.specs.SetValue.{Fits, set_globs, set_states};
-ghost use Rattle.globset_set.specs.Work.{max_set_visits};
+ghost use Rattle.set_matcher.specs.Work.{max_set_visits};
 
 use crate::set::GlobSet;
 use globset_glob::{Candidate, Error, NeedsScratch, Scratch, Visits};

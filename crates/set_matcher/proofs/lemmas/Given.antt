@@ -3,8 +3,8 @@ use Rattle.std.proofs.Common.{◌≡◌, ℕ, ◌+◌, ◌*◌, ◌≤◌, List,
 use Rattle.std.proofs.lemmas.List.{length-map}
 use Rattle.glob_syntax.specs.Views.{tokens_of}
 use Rattle.glob_path.specs.LiteralIndex.{KeyParts}
-use Rattle.set_matcher.specs.Below.{load_below, max_visits_below}
-use Rattle.set_matcher.specs.Globs.{FlatGlob, TokenGlob, load, max_visits, token_glob, token_globs}
+use Rattle.set_matcher.specs.inner.TokensBelow.{load_below, max_visits_below}
+use Rattle.set_matcher.specs.inner.TokenGlobs.{FlatGlob, TokenGlob, load, max_visits, token_glob, token_globs}
 use Rattle.set_matcher.specs.inner.Automata.{AutomataParts, folder_reads, reads_for}
 use Rattle.set_matcher.specs.inner.SetMatcher.{IsMatcherOf, IsSetMatcherOf, SetMatcherParts, set_matcher_parts}
 use Rattle.set_matcher.proofs.lemmas.Below.{below_visits}

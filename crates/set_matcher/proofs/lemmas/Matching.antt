@@ -9,7 +9,7 @@ use Rattle.std.proofs.lemmas.List.Sums.{sum_by-append}
 use Rattle.std.proofs.lemmas.Map.Steps.{le-length_from_below}
 use Rattle.bit_sets.specs.Indexes.{has_index, index_capacity}
 use Rattle.bit_sets.specs.declared.index_set.IndexSet.{IndexSet}
-use Rattle.set_matcher.specs.Globs.{TokenGlob, is_reported, is_reported_at, reported_indexes}
+use Rattle.set_matcher.specs.inner.TokenGlobs.{TokenGlob, is_reported, is_reported_at, reported_indexes}
 use Rattle.set_matcher.specs.Indexes.{ContainsAllBelow}
 use Rattle.glob_path.specs.LiteralIndex.{keys_found}
 use Rattle.set_matcher.specs.inner.Automata.{AreFound, AreIdle, AutomataParts, TokenLists}

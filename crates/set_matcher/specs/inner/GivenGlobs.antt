@@ -1,6 +1,6 @@
 -- The list that a chain of snapshots stands for.
 use Rattle.std.specs.Prelude.{List, [], ◌∷◌, ◌++◌}
-use Rattle.set_matcher.specs.Globs.{FlatGlob, flat_glob}
+use Rattle.set_matcher.specs.inner.TokenGlobs.{FlatGlob, flat_glob}
 use Rattle.set_matcher.specs.declared.given.Given.{Given, Nothing, After'}
 
 abbrev pub globs_given : Given → List FlatGlob

@@ -5,7 +5,7 @@ use Rattle.glob_strategy.specs.Below.{StrategyIsSoundBelow}
 use Rattle.glob_strategy.specs.declared.strategy.MatchStrategy.{MatchStrategy}
 use Rattle.glob_strategy.specs.Direct.{is_direct, needs_automaton}
 use Rattle.glob_strategy.specs.StrategyMeaning.{StrategyIsSound, has_automaton, runs_automaton, strategy_seen}
-use Rattle.set_matcher.specs.Globs.{is_reported, token_glob}
+use Rattle.set_matcher.specs.inner.TokenGlobs.{is_reported, token_glob}
 use Rattle.set_matcher.specs.inner.Automata.{ExtensionParts}
 use Rattle.set_matcher.specs.inner.SetMatcher.{set_matcher_parts}
 use Rattle.set_matcher.proofs.lemmas.SetMatcher.{as_listed, key_added, excluded_added, both_on_ok, three_on_ok, by_path_added, by_component_added, by_extension_added}

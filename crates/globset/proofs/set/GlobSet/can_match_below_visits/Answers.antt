@@ -1,6 +1,6 @@
 use Rattle.std.proofs.Common.{◌≡◌, IfOk, IsTrue, ap, sym, subst, ◌∙◌}
 use Rattle.std.specs.Prelude.{◌↔◌}
-use Rattle.globset_set.specs.Below.{MatchesBelow}
+use Rattle.set_matcher.specs.Below.{MatchesBelow}
 use Rattle.globset.specs.SetValue.{SetValue, set_globs}
 use Rattle.globset.specs.inner.StoredSet.{stored_set}
 use Rattle.globset.proofs.lemmas.Answer.{none_below, not_empty}

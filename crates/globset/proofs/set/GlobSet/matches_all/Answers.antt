@@ -1,6 +1,6 @@
 use Rattle.std.proofs.Common.{List, ℕ, IfOk, length, subst, ◌∙◌}
 use Rattle.std.specs.Prelude.{◌↔◌, IsTrue}
-use Rattle.globset_set.specs.Answer.{matching_indexes}
+use Rattle.set_matcher.specs.Answer.{matching_indexes}
 use Rattle.globset.specs.SetValue.{set_globs}
 use Rattle.set_matcher.specs.Indexes.{ContainsAllBelow}
 use Rattle.globset.proofs.set.GlobSet.matches_all.Goals as goal

@@ -2,7 +2,7 @@ use Rattle.std.proofs.Common.{◌≡◌, ◌≤◌, ◌+◌, ◌*◌, ℕ, List,
 use Rattle.std.specs.Prelude.{◌↔◌, IsTrue, []}
 use Rattle.bit_sets.specs.Indexes.{has_index, index_capacity}
 use Rattle.bit_sets.specs.declared.index_set.IndexSet.{IndexSet}
-use Rattle.set_matcher.specs.Globs.{TokenGlob, is_reported_at, reported_indexes, token_globs}
+use Rattle.set_matcher.specs.inner.TokenGlobs.{TokenGlob, is_reported_at, reported_indexes, token_globs}
 use Rattle.set_matcher.specs.SetMatcherValue.{matcher_globs}
 use Rattle.set_matcher.specs.inner.Automata.{AreFound, AreIdle, IsFoundSet, automata_or_none, reads_for}
 use Rattle.set_matcher.specs.inner.SetMatcher.{IsSetMatcherOf, SetMatcherParts, set_matcher_parts}

@@ -2,7 +2,7 @@ use Rattle.std.proofs.Common.{List, ap, sym, subst, true, false, true≢false, a
 use Rattle.std.specs.Prelude.{◌≢◌, ◌↔◌, IsTrue, []}
 use Rattle.std.proofs.lemmas.Result.{IfOk-weaker}
 use Rattle.glob_path.specs.LiteralIndex.{keys_found}
-use Rattle.set_matcher.specs.Globs.{TokenGlob, reported_indexes, token_globs}
+use Rattle.set_matcher.specs.inner.TokenGlobs.{TokenGlob, reported_indexes, token_globs}
 use Rattle.set_matcher.specs.SetMatcherValue.{matcher_globs}
 use Rattle.set_matcher.specs.inner.Automata.{automata_or_none}
 use Rattle.set_matcher.specs.inner.SetMatcher.{IsSetMatcherOf, set_matcher_parts}

@@ -1,7 +1,7 @@
 use Rattle.std.proofs.Common.{◌≡◌, ◌≤◌, ◌+◌, ◌*◌, List, length, ap, sym, subst, arith, ◌∙◌}
 use Rattle.std.specs.Prelude.{◌↔◌, IsTrue}
 use Rattle.bit_sets.specs.Indexes.{has_index, index_capacity}
-use Rattle.set_matcher.specs.Globs.{TokenGlob, reported_indexes, token_globs}
+use Rattle.set_matcher.specs.inner.TokenGlobs.{TokenGlob, reported_indexes, token_globs}
 use Rattle.set_matcher.specs.SetMatcherValue.{SetMatcherValue, matcher_globs}
 use Rattle.set_matcher.specs.Indexes.{ContainsAllBelow}
 use Rattle.set_matcher.specs.inner.Automata.{AreIdle, AutomataParts, automata_or_none, reads_for}

@@ -1,6 +1,0 @@
-pub mod Excluded
-pub mod Answer
-pub mod Below
-pub mod Work
-pub mod SetValue
-pub mod inner

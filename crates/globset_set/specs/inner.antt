@@ -1,2 +1,0 @@
-pub mod StoredGlobs
-pub mod StoredValue
