@@ -1,1 +1,1 @@
-pub mod StoredSet
+pub mod SetOfMatcher

@@ -1,6 +1,7 @@
 //! Builders of sets.
 
 use crate::set::GlobSet;
+use crate::set::storing::{set_of_globs, set_of_slice};
 use globset_glob::{DEFAULT_DFA_SIZE_LIMIT, Error, Glob};
 use std::alloc::{AllocError, Global};
 use std::marker::Model;
@@ -139,7 +140,7 @@ impl GlobSetBuilder {
         ensures ok { IfOk result (λ s. set_globs s ≡ builder_globs self.now) }
         ensures err { IsOkUnless result out_of_memory }
     {
-        GlobSet::of_slice(*self.pats.allocator(), self.dfa_size_limit, &self.pats)
+        set_of_slice(*self.pats.allocator(), self.dfa_size_limit, &self.pats)
     }
 
     /// Returns the set of the globs that were added, in order, and drops them: afterwards the builder has no globs, and can be
@@ -165,7 +166,7 @@ impl GlobSetBuilder {
         ensures err { IsOkUnless result out_of_memory }
     {
         let alloc = *self.pats.allocator();
-        let set = GlobSet::of_slice(alloc, self.dfa_size_limit, &self.pats)?;
+        let set = set_of_slice(alloc, self.dfa_size_limit, &self.pats)?;
         // The globs stay where they are until nothing can fail any more.
         self.pats = Vec::new(alloc);
         Ok(set)
@@ -192,7 +193,7 @@ impl GlobSetBuilder {
             pats,
             dfa_size_limit,
         } = self;
-        GlobSet::of_globs(*pats.allocator(), dfa_size_limit, pats)
+        set_of_globs(*pats.allocator(), dfa_size_limit, pats)
     }
 
     /// Returns a builder of equal globs and the same limit, with memory of its own. Returns an error only if memory runs out.

@@ -9,11 +9,12 @@ ghost use Rattle.set_matcher.specs.Indexes.{ContainsAllBelow};
 ghost use Rattle.globset.specs.SetValue.{set_globs};
 
 use crate::set::GlobSet;
-use globset_glob::{Candidate, Error, Visits};
-use set_matcher::StoredSearcher;
+use globset_glob::{Candidate, Error, Scratch, Visits};
+use set_matcher::{Caches, SetMatcher};
 use std::alloc::Global;
 use std::marker::Model;
 use std::mem;
+use std::sync::Arc;
 
 /// A [`GlobSet`] with all the memory that one thread needs to match paths. [`Searcher::new`] allocates it: no other call
 /// allocates, and none can fail.
@@ -34,29 +35,20 @@ use std::mem;
 /// assert_eq!(rt; searcher.matches(&Candidate::new("src/a.c")), [0, 1].as_slice());
 /// assert_eq!(rt; searcher.matches(&Candidate::new("src/a.h")), [1].as_slice());
 /// ```
+#[derive(Drop)]
 pub struct Searcher {
     set: GlobSet,
-    /// `None` if nothing is stored, as in an empty set.
-    stored: Option<StoredSearcher>,
+    /// What the set matches with. It is `None` if there are no globs.
+    matcher: Option<Arc<SetMatcher>>,
+    scratch: Scratch,
+    caches: Caches,
     found: Vec<usize>,
 }
 
-impl Drop for Searcher {
-    // One call wherever a value is dropped, which keeps proofs short.
-    fn drop(self) {
-        let Searcher {
-            set: _,
-            stored: _,
-            found: _,
-        } = self;
-    }
-}
-
 impl Model for Searcher {
-    ghost use Rattle.std.specs.Prelude.{◌≡◌, ◌≤◌, length, vec_capacity};
+    ghost use Rattle.std.specs.Prelude.{vec_capacity};
     ghost use Rattle.globset.specs.SearcherValue.{SearcherValue};
-    ghost use Rattle.globset.specs.SetValue.{set_globs};
-    ghost use Rattle.globset.specs.inner.StoredSet.{HasGlobs, stored_set};
+    ghost use Rattle.globset.specs.inner.SetOfMatcher.{IsSearcherOf};
 
     ghost Value = { SearcherValue };
 
@@ -65,7 +57,7 @@ impl Model for Searcher {
       found = s.found.items;
     } };
 
-    ghost invariant = { λ s. (stored_set s.stored ≡ s.set) × ((length (set_globs s.set) ≤ vec_capacity s.found) × HasGlobs s.stored) };
+    ghost invariant = { λ s. IsSearcherOf s.set s.matcher s.scratch s.caches (vec_capacity s.found) };
 }
 
 impl Searcher {
@@ -85,12 +77,19 @@ impl Searcher {
         ensures err { IsOkUnless result out_of_memory }
     {
         let set = set.clone()?;
-        let stored = match &set.stored {
-            Some(stored) => Some(stored.searcher(alloc)?),
-            None => None,
+        let scratch = Scratch::new(alloc, &set)?;
+        let (matcher, caches) = match &set.matcher {
+            Some(matcher) => (Some(Arc::try_clone(matcher)?), matcher.new_caches(alloc)?),
+            None => (None, Caches::none()),
         };
         let found = Vec::with_capacity(alloc, set.len())?;
-        Ok(Searcher { set, stored, found })
+        Ok(Searcher {
+            set,
+            matcher,
+            scratch,
+            caches,
+            found,
+        })
     }
 
     /// Returns the set.
@@ -109,10 +108,7 @@ impl Searcher {
             .found
             .capacity()
             .saturating_mul(mem::size_of::<usize>());
-        match &self.stored {
-            Some(stored) => indexes.saturating_add(stored.row_bytes()),
-            None => indexes,
-        }
+        indexes.saturating_add(self.caches.bytes())
     }
 
     /// Returns whether some glob that is not excluded matches the candidate's path, as [`GlobSet::is_match_candidate`] does.
@@ -133,10 +129,12 @@ impl Searcher {
         ensures counted { visits.old ≤ visits.new }
         ensures no_visits_if_empty { set_globs self.old.set ≡ [] → visits.new ≡ visits.old }
     {
-        let Some(stored) = &mut self.stored else {
+        let Some(matcher) = &self.matcher else {
             return false;
         };
-        stored.is_match(path, visits)
+        matcher
+            .is_match(path, &mut self.scratch, &mut self.caches, visits)
+            .unwrap()
     }
 
     /// Returns whether every glob matches the candidate's path and none is excluded, as [`GlobSet::matches_all_candidate`] does.
@@ -161,10 +159,12 @@ impl Searcher {
         ensures counted { visits.old ≤ visits.new }
         ensures no_visits_if_empty { set_globs self.old.set ≡ [] → visits.new ≡ visits.old }
     {
-        let Some(stored) = &mut self.stored else {
+        let Some(matcher) = &self.matcher else {
             return true;
         };
-        stored.matches_all(path, visits)
+        matcher
+            .matches_all(path, &mut self.scratch, &mut self.caches, visits)
+            .unwrap()
     }
 
     /// Finds the indexes, ascending, of the globs that match the candidate's path, which [`Searcher::found`] then returns.
@@ -186,11 +186,19 @@ impl Searcher {
         ensures counted { visits.old ≤ visits.new }
         ensures no_visits_if_empty { set_globs self.old.set ≡ [] → visits.new ≡ visits.old }
     {
-        self.found.clear();
-        let Some(stored) = &mut self.stored else {
+        let Some(matcher) = &self.matcher else {
+            self.found.clear();
             return;
         };
-        stored.find(path, &mut self.found, visits);
+        matcher
+            .find(
+                path,
+                &mut self.scratch,
+                &mut self.caches,
+                &mut self.found,
+                visits,
+            )
+            .unwrap();
     }
 
     /// Returns the indexes that the last call of [`Searcher::find`], [`Searcher::find_visits`] or [`Searcher::matches`] found, or
@@ -253,9 +261,11 @@ impl Searcher {
         ensures counted { visits.old ≤ visits.new }
         ensures no_visits_if_empty { set_globs self.old.set ≡ [] → visits.new ≡ visits.old }
     {
-        let Some(stored) = &mut self.stored else {
+        let Some(matcher) = &self.matcher else {
             return false;
         };
-        stored.can_match_below(folder, visits)
+        matcher
+            .can_match_below(folder.path(), &mut self.scratch, &mut self.caches, visits)
+            .unwrap()
     }
 }

@@ -1,6 +1,7 @@
 //! Sets of globs.
 
-ghost use Rattle.std.specs.Prelude.{◌≡◌, ◌≢◌, ◌↔◌, All, List, [], IfOk, IsOkUnless, IsTrue, length, map};
+ghost use Rattle.std.specs.Prelude.{◌≡◌, ◌≢◌, ◌↔◌, All, List, [], None, IfOk, IfSome, IsOkUnless, IsSome, IsTrue, length, map};
+ghost use Rattle.std.specs.Arc.{arc_value};
 ghost use Rattle.std.specs.Borrow.{Bor};
 ghost use Rattle.std.specs.Iterator.{Drains, IsFinite};
 ghost use Rattle.globset_glob.specs.Errors.{out_of_memory};
@@ -11,17 +12,18 @@ mod all;
 mod any;
 mod below;
 mod matches;
-mod storing;
+pub(crate) mod storing;
 mod value;
 mod with;
 
 use crate::builder::GlobSetBuilder;
-use crate::set::storing::{stored_of_globs, stored_of_references, stored_of_slice};
+use crate::set::storing::set_of_references;
 use globset_glob::{Error, Glob};
-use set_matcher::Stored;
+use set_matcher::SetMatcher;
 use std::alloc::{AllocError, Global};
 use std::fmt;
 use std::marker::Model;
+use std::sync::Arc;
 
 /// A list of globs that are matched against a path together. Each glob has an index, from 0 on, in the order of the list.
 ///
@@ -59,27 +61,21 @@ use std::marker::Model;
 /// assert!(rt; glob.compile_matcher()?.is_match("a/..")?);
 /// assert!(rt; !GlobSet::new(alloc, [&glob])?.is_match("a/..")?);
 /// ```
+#[derive(Drop)]
 pub struct GlobSet {
-    /// It is `None` if there are no globs.
-    pub(crate) stored: Option<Stored>,
-}
-
-impl Drop for GlobSet {
-    // One call wherever a value is dropped, which keeps proofs short.
-    fn drop(self) {
-        let GlobSet { stored: _ } = self;
-    }
+    /// What the set matches with, which clones and searchers share. It is `None` if there are no globs.
+    pub(crate) matcher: Option<Arc<SetMatcher>>,
 }
 
 impl Model for GlobSet {
     ghost use Rattle.globset.specs.SetValue.{SetValue};
-    ghost use Rattle.globset.specs.inner.StoredSet.{HasGlobs, stored_set};
+    ghost use Rattle.globset.specs.inner.SetOfMatcher.{HasGlobs, set_of};
 
     ghost Value = { SetValue };
 
-    ghost view = { λ s. stored_set s.stored };
+    ghost view = { λ s. set_of s.matcher };
 
-    ghost invariant = { λ s. HasGlobs s.stored };
+    ghost invariant = { λ s. HasGlobs s.matcher };
 }
 
 impl GlobSet {
@@ -97,14 +93,14 @@ impl GlobSet {
         ensures globs { set_globs result ≡ [] }
         ensures states { set_states result ≡ 0 }
     {
-        GlobSet { stored: None }
+        GlobSet { matcher: None }
     }
 
     /// Returns whether the set has no globs. It allocates nothing.
     pub fn is_empty(&self) -> bool
         ensures { IsTrue result ↔ (set_globs self.now ≡ []) }
     {
-        self.stored.is_none()
+        self.matcher.is_none()
     }
 
     /// Returns the number of globs in the set, excluded globs included. It allocates nothing.
@@ -112,8 +108,8 @@ impl GlobSet {
         ensures count { result ≡ length (set_globs self.now) }
         ensures read { All IsRead (set_globs self.now) }
     {
-        match &self.stored {
-            Some(stored) => stored.len(),
+        match self.matcher() {
+            Some(matcher) => matcher.len(),
             None => 0,
         }
     }
@@ -145,7 +141,7 @@ impl GlobSet {
         for glob in globs {
             references.push(glob)?;
         }
-        Ok(GlobSet::of_stored(stored_of_references(alloc, &references)?))
+        Ok(set_of_references(alloc, &references)?)
     }
 
     /// Returns an equal set, which shares the keys and automata. It does not allocate, and takes little time for sets of any
@@ -154,11 +150,11 @@ impl GlobSet {
         ensures ok { IfOk result (λ s. s ≡ self.now) }
         ensures err { IsOkUnless result out_of_memory }
     {
-        let Some(stored) = &self.stored else {
-            return Ok(GlobSet { stored: None });
+        let Some(matcher) = &self.matcher else {
+            return Ok(GlobSet::empty());
         };
         Ok(GlobSet {
-            stored: Some(stored.clone()?),
+            matcher: Some(Arc::try_clone(matcher)?),
         })
     }
 
@@ -174,49 +170,38 @@ impl GlobSet {
     /// assert_eq!(rt; set.kept_bytes(), 0);
     /// ```
     pub fn kept_bytes(&self) -> usize {
-        match &self.stored {
-            Some(stored) => stored.kept_bytes(),
+        match self.matcher() {
+            Some(matcher) => matcher.kept_bytes(),
             None => 0,
         }
     }
 
-    /// Returns the set that stores this, for a crate that makes a [`Stored`] glob by glob, as `globset_c` does.
-    pub fn of_stored(stored: Stored) -> GlobSet
-        ensures globs { set_globs result ≡ set_globs stored.set }
-        ensures stored { set_globs stored.set ≢ [] → result ≡ stored.set }
-        ensures none { set_globs stored.set ≡ [] → set_states result ≡ 0 }
+    /// Returns the set that matches with this: for a crate that adds globs to a builder one by one, as `globset_c` does.
+    pub fn of_matcher(matcher: Arc<SetMatcher>) -> GlobSet
+        ensures globs { set_globs result ≡ set_globs (arc_value matcher).set }
+        ensures matcher { set_globs (arc_value matcher).set ≢ [] → result ≡ (arc_value matcher).set }
+        ensures none { set_globs (arc_value matcher).set ≡ [] → set_states result ≡ 0 }
     {
-        if stored.len() == 0 {
+        if matcher.len() == 0 {
             return GlobSet::empty();
         }
         GlobSet {
-            stored: Some(stored),
+            matcher: Some(matcher),
         }
     }
 
-    /// Returns the set of these globs, in order. The rows that it keeps take at most `dfa_size_limit` bytes. Returns an error
-    /// only if memory runs out.
-    pub(crate) fn of_slice(
-        alloc: Global,
-        dfa_size_limit: usize,
-        globs: &[Glob],
-    ) -> Result<GlobSet, Error>
-        ensures ok { IfOk result (λ s. set_globs s ≡ globs.now) }
-        ensures err { IsOkUnless result out_of_memory }
+    /// Returns what the set matches with, or `None` if it has no globs.
+    #[inline(always)]
+    fn matcher(&self) -> Option<&SetMatcher>
+        ensures set { IfSome result (λ m. m.now.set ≡ self.now) }
+        ensures globs { IsSome result → set_globs self.now ≢ [] }
+        ensures none { result ≡ None → set_globs self.now ≡ [] }
+        ensures states { result ≡ None → set_states self.now ≡ 0 }
     {
-        Ok(GlobSet::of_stored(stored_of_slice(alloc, dfa_size_limit, globs)?))
-    }
-
-    /// Returns the set of these globs, as [`GlobSet::of_slice`] does, and drops each once it is not needed any more.
-    pub(crate) fn of_globs(
-        alloc: Global,
-        dfa_size_limit: usize,
-        globs: Vec<Glob>,
-    ) -> Result<GlobSet, Error>
-        ensures ok { IfOk result (λ s. set_globs s ≡ globs.items) }
-        ensures err { IsOkUnless result out_of_memory }
-    {
-        Ok(GlobSet::of_stored(stored_of_globs(alloc, dfa_size_limit, globs)?))
+        match &self.matcher {
+            Some(matcher) => Some(matcher),
+            None => None,
+        }
     }
 }
 
@@ -250,9 +235,14 @@ impl Clone for GlobSet {
 /// the result of [`GlobSet::kept_bytes`].
 impl fmt::Debug for GlobSet {
     fn fmt<W: fmt::Write>(&self, f: &mut fmt::Formatter<W>) -> fmt::Result {
-        match &self.stored {
-            Some(stored) => stored.fmt(f),
-            None => f.write_str("GlobSet { len: 0, max_states: 0, kept_bytes: 0 }"),
-        }
+        let states = match self.matcher() {
+            Some(matcher) => matcher.max_states(),
+            None => 0,
+        };
+        f.debug_struct("GlobSet")
+            .field("len", &self.len())
+            .field("max_states", &states)
+            .field("kept_bytes", &self.kept_bytes())
+            .finish()
     }
 }

@@ -13,7 +13,7 @@ use crate::owned::Owned;
 use crate::status::{DONE, OUT_OF_MEMORY, Status, WRONG_KIND};
 use globset::{DEFAULT_DFA_SIZE_LIMIT, GlobSet};
 use globset_glob::{options_of, text_of, tokens_of};
-use set_matcher::StoredBuilder;
+use set_matcher::SetMatcherBuilder;
 use std::alloc::{AllocError, Global};
 
 /// Makes the set of globs that are lent, in their order, and lets the caller own it. The globs are read, and not copied.
@@ -79,16 +79,19 @@ fn set_of(alloc: Global, globs: &mut [Lent]) -> Result<GlobSet, AllocError>
     ensures made { IfOk result (λ s. set_globs s ≡ lent_globs globs.old) }
 {
     // In a box, since it moves into and out of each call that reads a glob.
-    let mut builder = Box::new(alloc, StoredBuilder::new(alloc, globs.len()))?;
+    let mut builder = Box::new(alloc, SetMatcherBuilder::new(alloc, globs.len()))?;
     for i in 0..globs.len() {
         builder = globs[i].read(builder, |object, builder| add(object, builder))?;
     }
-    let stored = Box::into_inner(builder).finish(DEFAULT_DFA_SIZE_LIMIT)?;
-    Ok(GlobSet::of_stored(stored))
+    let matcher = Box::into_inner(builder).finish(DEFAULT_DFA_SIZE_LIMIT)?;
+    Ok(GlobSet::of_matcher(matcher))
 }
 
 /// Adds the glob after those that were added, if the object is one.
-fn add(object: &Object, builder: Box<StoredBuilder>) -> Result<Box<StoredBuilder>, AllocError>
+fn add(
+    object: &Object,
+    builder: Box<SetMatcherBuilder>,
+) -> Result<Box<SetMatcherBuilder>, AllocError>
     requires { length builder.value.given < builder.value.count }
     ensures globs { IfOk result (λ b. b.value.given ≡ builder.value.given ++ glob_in object.now) }
     ensures count { IfOk result (λ b. b.value.count ≡ builder.value.count) }

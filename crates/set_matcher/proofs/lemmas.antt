@@ -13,6 +13,3 @@ pub mod Tables
 pub mod Shared
 pub mod Visits
 pub mod ExtensionSlots
-pub mod Added
-pub mod Answer
-pub mod StoredShared

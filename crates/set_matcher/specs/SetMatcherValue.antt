@@ -1,16 +1,26 @@
 -- Set matchers and their builders as contracts see them.
 use Rattle.std.specs.Prelude.{ℕ, List}
-use Rattle.set_matcher.specs.inner.TokenGlobs.{FlatGlob, TokenGlob, token_globs}
-use Rattle.set_matcher.specs.inner.Automata.{AutomataParts}
+use Rattle.glob_text.specs.GlobMatches.{GlobValue}
+use Rattle.set_matcher.specs.SetValue.{SetValue}
+use Rattle.set_matcher.specs.inner.Automata.{AutomataParts, max_states}
 
--- The globs, in the order in which they were added; the number that each index is below, which is how many globs may be added;
--- the number of states of the largest automaton; and the automata, so that it can be said which of them a cache is of.
+-- the set, and its automata, so that it can be said which of them a cache is of
 pub record SetMatcherValue : Type 0 where
-  pub given : List FlatGlob
-  pub index_count : ℕ
-  pub states : ℕ
+  pub set : SetValue
   pub automata : AutomataParts
 
--- the globs by their tokens
-abbrev pub matcher_globs : SetMatcherValue → List TokenGlob
-matcher_globs g = token_globs g.given
+-- the globs of the set
+abbrev pub matcher_globs : SetMatcherValue → List GlobValue
+matcher_globs v = v.set.globs
+
+-- the value of globs and their automata
+abbrev pub set_matcher_value : List GlobValue → AutomataParts → SetMatcherValue
+set_matcher_value globs a = record {
+  set = record { globs = globs; states = max_states a };
+  automata = a;
+}
+
+-- what is seen of a set while it is made: the globs that were added so far, and how many there will be
+pub record AddedGlobs : Type 0 where
+  pub given : List GlobValue
+  pub count : ℕ

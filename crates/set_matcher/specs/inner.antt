@@ -1,12 +1,8 @@
 pub mod Automata
 pub mod Builders
-pub mod GivenGlobs
-pub mod GivenTokens
 pub mod PathPart
 pub mod SetMatcher
 pub mod ExtensionSlots
 pub mod Caches
-pub mod StoredGlobs
-pub mod StoredValue
 pub mod TokenGlobs
 pub mod TokensBelow

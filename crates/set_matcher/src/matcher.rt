@@ -1,67 +1,111 @@
-//! The globs of a list, grouped by what decides each of them.
+//! The globs of a set, grouped by what decides each of them.
 
-ghost use Rattle.std.specs.Prelude.{◌≡◌, ◌<◌, ◌++◌, ◌∷◌, [], List, length, OnOk, OnErr, IfOk};
+ghost use Rattle.std.specs.Prelude.{◌≡◌, ◌<◌, ◌≤◌, ◌*◌, ◌++◌, ◌∷◌, [], All, IfOk, Ok, OnOk, OnErr, length, string_bytes};
+ghost use Rattle.std.specs.Arc.{arc_value};
+ghost use Rattle.std.specs.Str.{chars};
 ghost use Rattle.glob_syntax.specs.FlatTokens.{IsNested};
+ghost use Rattle.glob_syntax.specs.Reading.{reading};
+ghost use Rattle.glob_syntax.specs.StatesPerByte.{states_per_byte};
 ghost use Rattle.glob_syntax.specs.Views.{flats, tokens_of};
-ghost use Rattle.set_matcher.specs.inner.TokenGlobs.{token_glob};
-ghost use Rattle.set_matcher.specs.SetMatcherValue.{matcher_globs};
+ghost use Rattle.glob_syntax.specs.inner.Weight.{weight};
+ghost use Rattle.glob_text.specs.GlobMatches.{IsRead, glob_value};
+ghost use Rattle.set_matcher.specs.SetValue.{set_globs, set_states};
+ghost use Rattle.set_matcher.specs.inner.Caches.{AreCachesOf};
 ghost use Rattle.set_matcher.specs.inner.SetMatcher.{AddsGlob, set_matcher_parts};
+ghost use Rattle.set_matcher.specs.inner.TokenGlobs.{token_glob};
 
 use crate::automata::{Automata, AutomataBuilder};
-use crate::given::GivenGlobs;
+use crate::caches::Caches;
+use glob_matching::Scratch;
 use glob_path::{LiteralIndex, LiteralIndexBuilder};
 use glob_strategy::{MatchStrategy, strategy_of, tokens_after_prefix, tokens_before_ending};
 use glob_syntax::{Options, Token};
+use glob_text::GivenGlobs;
 use std::alloc::{AllocError, Global};
 use std::marker::Model;
+use std::sync::Arc;
 
-/// A list of globs, grouped by what decides each of them. The index of a glob is its position in the list.
+/// What a set needs to match: its globs, grouped by what decides each of them. The index of a glob is its position. Of the globs
+/// themselves nothing is kept but what contracts see, which takes no memory.
 ///
-/// Contracts see the list, the number that each index is below, the number of states of the largest automaton, and the automata, so that
-/// it can be said which of them a cache is of.
+/// Contracts see the set, and the automata, so that it can be said which of them a cache is of.
+#[derive(Drop)]
 pub struct SetMatcher {
+    alloc: Global,
     globs: GivenGlobs,
-    /// How many globs there are.
+    /// How many globs there are. Each index is below it.
     pub(crate) len: usize,
     pub(crate) keys: LiteralIndex,
-    /// The number that each index is below.
-    pub(crate) index_count: usize,
     /// Automata for the globs that no key decides, if there are such globs. They are in a box, so that a set without them is small.
     pub(crate) automata: Option<Box<Automata>>,
 }
 
-impl Drop for SetMatcher {
-    // One call wherever a value is dropped, which keeps proofs short.
-    fn drop(self) {
-        let SetMatcher {
-            globs: _,
-            len: _,
-            keys: _,
-            index_count: _,
-            automata: _,
-        } = self;
-    }
-}
-
 impl Model for SetMatcher {
-    ghost use Rattle.set_matcher.specs.SetMatcherValue.{SetMatcherValue};
-    ghost use Rattle.set_matcher.specs.inner.Automata.{automata_or_none, max_states};
+    ghost use Rattle.set_matcher.specs.SetMatcherValue.{SetMatcherValue, set_matcher_value};
+    ghost use Rattle.set_matcher.specs.inner.Automata.{automata_or_none};
     ghost use Rattle.set_matcher.specs.inner.SetMatcher.{KeepsMatcherOf};
 
     ghost Value = { SetMatcherValue };
 
-    ghost view = { λ g. record {
-      given = g.globs;
-      index_count = g.index_count;
-      states = max_states (automata_or_none g.index_count g.automata);
-      automata = automata_or_none g.index_count g.automata;
-    } };
+    ghost view = { λ g. set_matcher_value g.globs (automata_or_none g.len g.automata) };
 
-    ghost invariant = { λ g. KeepsMatcherOf g.globs g.len g.keys g.index_count g.automata };
+    ghost invariant = { λ g. KeepsMatcherOf g.globs g.len g.keys g.automata };
 }
 
-/// Makes [`SetMatcher`], glob by glob. Contracts see it as they see the matcher of the globs that were added.
+impl SetMatcher {
+    /// Returns the number of globs, each of which was read, with those that are excluded.
+    pub fn len(&self) -> usize
+        ensures count { result ≡ length (set_globs self.now.set) }
+        ensures read { All IsRead (set_globs self.now.set) }
+    {
+        self.len
+    }
+
+    /// Returns the number of states of the largest automaton.
+    pub fn max_states(&self) -> usize
+        ensures { result ≡ set_states self.now.set }
+    {
+        match &self.automata {
+            Some(automata) => automata.max_states(),
+            None => 0,
+        }
+    }
+
+    /// Returns how many bytes the caches take that automata keep between calls. It takes time linear in the number of these.
+    pub fn kept_bytes(&self) -> usize {
+        match &self.automata {
+            Some(automata) => automata.kept_bytes(),
+            None => 0,
+        }
+    }
+
+    /// Keeps a cache in each automaton that has none and may use one, as far as there is memory for it.
+    pub fn keep_caches(&self) {
+        if let Some(automata) = &self.automata {
+            automata.keep_caches();
+        }
+    }
+
+    /// Returns a scratch without room, to match with. It allocates nothing.
+    pub fn new_scratch(&self) -> Scratch {
+        Scratch::empty(self.alloc)
+    }
+
+    /// Returns caches with no rows for this matcher. All memory that they need is taken here. Returns an error if memory runs out.
+    pub fn new_caches(&self, alloc: Global) -> Result<Caches, AllocError>
+        ensures { IfOk result (λ caches. AreCachesOf self.now.automata caches) }
+    {
+        match &self.automata {
+            Some(automata) => automata.new_caches(alloc),
+            None => Ok(Caches::none()),
+        }
+    }
+}
+
+/// Makes [`SetMatcher`], glob by glob. A glob is not needed any more once it is added.
+#[derive(Drop)]
 pub struct SetMatcherBuilder {
+    alloc: Global,
     globs: GivenGlobs,
     /// How many globs were added.
     len: usize,
@@ -69,42 +113,28 @@ pub struct SetMatcherBuilder {
     automata: AutomataBuilder,
 }
 
-impl Drop for SetMatcherBuilder {
-    // One call wherever a value is dropped, which keeps proofs short.
-    fn drop(self) {
-        let SetMatcherBuilder {
-            globs: _,
-            len: _,
-            keys: _,
-            automata: _,
-        } = self;
-    }
-}
-
 impl Model for SetMatcherBuilder {
-    ghost use Rattle.set_matcher.specs.SetMatcherValue.{SetMatcherValue};
-    ghost use Rattle.set_matcher.specs.inner.Automata.{max_states};
+    ghost use Rattle.set_matcher.specs.SetMatcherValue.{AddedGlobs};
     ghost use Rattle.set_matcher.specs.inner.SetMatcher.{IsMatcherOf};
 
-    ghost Value = { SetMatcherValue };
+    ghost Value = { AddedGlobs };
 
     ghost view = { λ g. record {
       given = g.globs;
-      index_count = g.automata.extensions.index_count;
-      states = max_states g.automata;
-      automata = g.automata;
+      count = g.automata.extensions.index_count;
     } };
 
     ghost invariant = { λ g. IsMatcherOf g.globs g.len g.keys g.automata };
 }
 
 impl SetMatcherBuilder {
-    /// Returns a builder that no globs were added to. At most `count` may be. It allocates nothing.
+    /// Returns a builder that no globs were added to. So many of them have to be. It allocates nothing.
     pub fn new(alloc: Global, count: usize) -> SetMatcherBuilder
-        ensures globs { matcher_globs result ≡ [] }
-        ensures count { result.index_count ≡ count }
+        ensures none { result.given ≡ [] }
+        ensures count { result.count ≡ count }
     {
         SetMatcherBuilder {
+            alloc,
             globs: GivenGlobs::new(),
             len: 0,
             keys: LiteralIndexBuilder::new(alloc),
@@ -112,28 +142,32 @@ impl SetMatcherBuilder {
         }
     }
 
-    /// Adds a glob after those that were added: its options and its tokens. Its index is the number of globs before it.
+    /// Adds a glob after those that were added: its text, its options, and the tokens that the text was read as. Its index is the
+    /// number of globs before it.
     ///
     /// It takes time and memory linear in the tokens. Returns an error if memory runs out. Then the builder has no globs, and as
     /// many may be added as at first.
     pub fn add(
         &mut self,
-        alloc: Global,
+        text: &String,
         options: Options,
         tokens: &[Token],
     ) -> Result<(), AllocError>
+        requires room { length self.old.given < self.old.count }
+        requires read { reading options (chars (string_bytes text.now))
+            ≡ Ok (tokens_of tokens.now) }
         requires nested { IsNested (flats tokens.now) }
-        requires count { length (matcher_globs self.old) < self.old.index_count }
-        ensures globs { OnOk result
-            (matcher_globs self.new
-            ≡ matcher_globs self.old ++ token_glob options (tokens_of tokens.now) ∷ []) }
-        ensures none { OnErr result (matcher_globs self.new ≡ []) }
-        ensures count { self.new.index_count ≡ self.old.index_count }
+        requires weight { weight options (tokens_of tokens.now)
+            ≤ states_per_byte options * length (string_bytes text.now) }
+        ensures glob { OnOk result
+            (self.new.given ≡ self.old.given ++ glob_value (string_bytes text.now) options ∷ []) }
+        ensures none { OnErr result (self.new.given ≡ []) }
+        ensures count { self.new.count ≡ self.old.count }
     {
         let count = self.automata.index_count();
         let index = self.len;
         let added = put(
-            alloc,
+            self.alloc,
             &mut self.keys,
             &mut self.automata,
             options,
@@ -144,33 +178,36 @@ impl SetMatcherBuilder {
             // A part of the glob may be there, so everything is made anew.
             self.globs = GivenGlobs::new();
             self.len = 0;
-            self.keys = LiteralIndexBuilder::new(alloc);
+            self.keys = LiteralIndexBuilder::new(self.alloc);
             self.automata = AutomataBuilder::new(count);
             return Err(error);
         }
-        self.globs.push(options, tokens);
+        self.globs = self.globs.copy().and(text, options);
         self.len = index + 1;
         Ok(())
     }
 
-    /// Returns the matcher of the globs that were added. The rows that it keeps take at most `dfa_size_limit` bytes. Returns an
+    /// Returns the matcher of the globs that were added, which sets and searchers share. The rows that it keeps take at most `dfa_size_limit` bytes. Returns an
     /// error if memory runs out.
-    pub fn finish(self, alloc: Global, dfa_size_limit: usize) -> Result<SetMatcher, AllocError>
-        ensures { IfOk result (λ matcher. matcher ≡ self) }
+    pub fn finish(self, dfa_size_limit: usize) -> Result<Arc<SetMatcher>, AllocError>
+        requires { length self.given ≡ self.count }
+        ensures { IfOk result (λ matcher. set_globs (arc_value matcher).set ≡ self.given) }
     {
         let SetMatcherBuilder {
+            alloc,
             globs,
             len,
             keys,
             automata,
         } = self;
-        Ok(SetMatcher {
+        let matcher = SetMatcher {
+            alloc,
             globs,
             len,
             keys: keys.finish(alloc)?,
-            index_count: automata.index_count(),
             automata: automata.finish(alloc, dfa_size_limit)?,
-        })
+        };
+        Ok(Arc::new(alloc, matcher)?)
     }
 }
 

@@ -1,13 +1,13 @@
-//! Which globs of a list match a path.
+//! Which globs of a set match a path, or a path below a folder.
 
-ghost use Rattle.std.specs.Prelude.{◌≡◌, ◌≢◌, ◌+◌, ◌≤◌, ◌↔◌, [], ℕ, IfOk, IsOk, OnOk, OnErr, IsTrue, length, vec_capacity};
-ghost use Rattle.bit_sets.specs.Indexes.{has_index, index_capacity};
+ghost use Rattle.std.specs.Prelude.{◌≡◌, ◌≢◌, ◌+◌, ◌≤◌, ◌↔◌, [], IfOk, IsOk, OnOk, OnErr, IsTrue, length, vec_capacity};
 ghost use Rattle.bit_sets.specs.Texts.{AllBytes};
-ghost use Rattle.lazy_dfa.specs.Sets.{sets_capacity};
 ghost use Rattle.glob_matching.specs.ScratchValue.{HasCapacity};
-ghost use Rattle.set_matcher.specs.inner.TokenGlobs.{is_reported_at, reported_indexes, load, max_visits};
-ghost use Rattle.set_matcher.specs.SetMatcherValue.{matcher_globs};
+ghost use Rattle.set_matcher.specs.Answer.{matching_indexes};
+ghost use Rattle.set_matcher.specs.Below.{MatchesBelow};
 ghost use Rattle.set_matcher.specs.Indexes.{ContainsAllBelow};
+ghost use Rattle.set_matcher.specs.SetValue.{set_globs, set_states};
+ghost use Rattle.set_matcher.specs.Work.{load, load_below, max_set_visits, max_set_visits_below};
 ghost use Rattle.set_matcher.specs.inner.Caches.{AreCachesOf};
 
 use crate::caches::Caches;
@@ -15,51 +15,9 @@ use crate::matcher::SetMatcher;
 use bit_sets::Visits;
 use glob_matching::Scratch;
 use glob_path::{Candidate, PathParts};
-use std::alloc::{AllocError, Global};
+use std::alloc::AllocError;
 
 impl SetMatcher {
-    /// Returns the number of globs, with those that are excluded.
-    pub fn len(&self) -> usize
-        ensures { result ≡ length (matcher_globs self.now) }
-    {
-        self.len
-    }
-
-    /// Returns the number of states of the largest automaton.
-    pub fn max_states(&self) -> usize
-        ensures { result ≡ self.now.states }
-    {
-        match &self.automata {
-            Some(automata) => automata.max_states(),
-            None => 0,
-        }
-    }
-
-    /// Returns how many bytes the caches take that automata keep between calls. It takes time linear in the number of these.
-    pub fn kept_bytes(&self) -> usize {
-        match &self.automata {
-            Some(automata) => automata.kept_bytes(),
-            None => 0,
-        }
-    }
-
-    /// Keeps a cache in each automaton that has none and may use one, as far as there is memory for it.
-    pub fn keep_caches(&self) {
-        if let Some(automata) = &self.automata {
-            automata.keep_caches();
-        }
-    }
-
-    /// Returns caches with no rows for this matcher. All memory that they need is taken here. Returns an error if memory runs out.
-    pub fn new_caches(&self, alloc: Global) -> Result<Caches, AllocError>
-        ensures { IfOk result (λ caches. AreCachesOf self.now.automata caches) }
-    {
-        match &self.automata {
-            Some(automata) => automata.new_caches(alloc),
-            None => Ok(Caches::none()),
-        }
-    }
-
     /// Replaces the vector's items by the indexes, ascending, of the globs that are not excluded and match the path.
     ///
     /// The scratch gets room for each index, and for each state of an automaton that is stepped; the vector grows for the indexes.
@@ -76,13 +34,15 @@ impl SetMatcher {
         requires { AreCachesOf self.now.automata caches.old }
         ensures caches { caches.new ≡ caches.old }
         ensures ok { OnOk result
-            (into.new.items ≡ reported_indexes (matcher_globs self.now) path.now) }
+            (into.new.items ≡ matching_indexes (set_globs self.now.set) path.now) }
         ensures cleared { OnErr result (into.new.items ≡ []) }
         ensures kept { scratch.new ≡ scratch.old }
-        ensures room { HasCapacity scratch.old self.now.states self.now.index_count
-            → length (matcher_globs self.now) ≤ vec_capacity into.old → IsOk result }
+        ensures room { HasCapacity scratch.old (set_states self.now.set)
+            (length (set_globs self.now.set))
+            → length (set_globs self.now.set) ≤ vec_capacity into.old → IsOk result }
         ensures capacity { vec_capacity into.old ≤ vec_capacity into.new }
-        ensures visits { visits.new ≤ visits.old + max_visits (matcher_globs self.now) path.now }
+        ensures visits { visits.new
+            ≤ visits.old + max_set_visits (set_globs self.now.set) path.now }
         ensures counted { visits.old ≤ visits.new }
     {
         into.clear();
@@ -98,7 +58,7 @@ impl SetMatcher {
                 return Ok(());
             }
             marks.clear();
-            marks.reserve(self.index_count)?;
+            marks.reserve(self.len)?;
         }
         self.keys.find(&parts, marks, visits);
         if let Err(error) = marks.push_below(self.len(), into) {
@@ -122,11 +82,13 @@ impl SetMatcher {
         requires { AreCachesOf self.now.automata caches.old }
         ensures caches { caches.new ≡ caches.old }
         ensures some { IfOk result
-            (λ yes. IsTrue yes ↔ (reported_indexes (matcher_globs self.now) path.now ≢ [])) }
+            (λ yes. IsTrue yes ↔ (matching_indexes (set_globs self.now.set) path.now ≢ [])) }
         ensures kept { scratch.new ≡ scratch.old }
-        ensures room { HasCapacity scratch.old self.now.states self.now.index_count → IsOk result }
-        ensures memory { load (matcher_globs self.now) path.now ≡ 0 → IsOk result }
-        ensures visits { visits.new ≤ visits.old + max_visits (matcher_globs self.now) path.now }
+        ensures room { HasCapacity scratch.old (set_states self.now.set)
+            (length (set_globs self.now.set)) → IsOk result }
+        ensures memory { load (set_globs self.now.set) path.now ≡ 0 → IsOk result }
+        ensures visits { visits.new
+            ≤ visits.old + max_set_visits (set_globs self.now.set) path.now }
         ensures counted { visits.old ≤ visits.new }
     {
         let parts = self.parts_of(path.path());
@@ -154,12 +116,14 @@ impl SetMatcher {
         ensures caches { caches.new ≡ caches.old }
         ensures all { IfOk result
             (λ yes. IsTrue yes
-            ↔ ContainsAllBelow (reported_indexes (matcher_globs self.now) path.now)
-            (length (matcher_globs self.now))) }
+            ↔ ContainsAllBelow (matching_indexes (set_globs self.now.set) path.now)
+            (length (set_globs self.now.set))) }
         ensures kept { scratch.new ≡ scratch.old }
-        ensures room { HasCapacity scratch.old self.now.states self.now.index_count → IsOk result }
-        ensures memory { load (matcher_globs self.now) path.now ≡ 0 → IsOk result }
-        ensures visits { visits.new ≤ visits.old + max_visits (matcher_globs self.now) path.now }
+        ensures room { HasCapacity scratch.old (set_states self.now.set)
+            (length (set_globs self.now.set)) → IsOk result }
+        ensures memory { load (set_globs self.now.set) path.now ≡ 0 → IsOk result }
+        ensures visits { visits.new
+            ≤ visits.old + max_set_visits (set_globs self.now.set) path.now }
         ensures counted { visits.old ≤ visits.new }
     {
         let parts = self.parts_of(path.path());
@@ -171,6 +135,40 @@ impl SetMatcher {
             }
         }
         Ok(self.keys.count_found(&parts, visits) == Some(self.len()))
+    }
+
+    /// Returns whether some glob that is not excluded matches some path below a folder: the folder, a `/`, and any bytes, perhaps none.
+    ///
+    /// The scratch gets room for each state of an automaton that is stepped. Returns an error if memory runs out, and so none if it
+    /// has that room, or if each glob is direct.
+    pub fn can_match_below(
+        &self,
+        folder: &[u8],
+        scratch: &mut Scratch,
+        caches: &mut Caches,
+        visits: &mut Visits,
+    ) -> Result<bool, AllocError>
+        requires { AreCachesOf self.now.automata caches.old }
+        ensures caches { caches.new ≡ caches.old }
+        ensures some { IfOk result
+            (λ yes. IsTrue yes ↔ MatchesBelow (set_globs self.now.set) folder.now) }
+        ensures kept { scratch.new ≡ scratch.old }
+        ensures room { HasCapacity scratch.old (set_states self.now.set)
+            (length (set_globs self.now.set)) → IsOk result }
+        ensures memory { load_below (set_globs self.now.set) ≡ 0 → IsOk result }
+        ensures visits { visits.new
+            ≤ visits.old + max_set_visits_below (set_globs self.now.set) folder.now }
+        ensures counted { visits.old ≤ visits.new }
+    {
+        if self.keys.can_match_below(folder, visits) {
+            return Ok(true);
+        }
+        match &self.automata {
+            Some(automata) => {
+                automata.can_match_below(folder, &mut scratch.sets, caches, visits)
+            }
+            None => Ok(false),
+        }
     }
 
     /// Returns a path with the parts that keys and automata ask for, so that each is searched for once.

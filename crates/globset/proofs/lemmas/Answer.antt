@@ -1,13 +1,14 @@
 -- The answers of a set of no globs.
-use Rattle.std.proofs.Common.{◌≡◌, ℕ, List, [], Option, Some, refl, sym, ap, subst, ◌∙◌}
+use Rattle.std.proofs.Common.{◌≡◌, ℕ, List, [], Option, None, refl, sym, ap, ◌∙◌}
 use Rattle.std.specs.Prelude.{◌≢◌, ◌↔◌, IsTrue, false}
+use Rattle.std.specs.declared.sync.Arc.{Arc}
 use Rattle.glob_path.specs.Below.{path_below}
 use Rattle.globset_glob.specs.GlobMatches.{GlobValue}
 use Rattle.set_matcher.specs.Answer.{matching_indexes}
 use Rattle.set_matcher.specs.Below.{MatchesBelow}
 use Rattle.set_matcher.specs.SetValue.{SetValue, set_globs}
-use Rattle.set_matcher.specs.inner.StoredValue.{StoredValue}
-use Rattle.globset.specs.inner.StoredSet.{HasGlobs}
+use Rattle.set_matcher.specs.SetMatcherValue.{SetMatcherValue}
+use Rattle.globset.specs.inner.SetOfMatcher.{set_of}
 
 pub answer_of_none : (globs : List GlobValue) (path : List ℕ) → globs ≡ [] → [] ≡ matching_indexes globs path
 unfolding matching_indexes
@@ -19,6 +20,6 @@ none_of_none globs path e = (λ y. absurd (cc), λ n. absurd (n (sym (answer_of_
 pub none_below : (globs : List GlobValue) (folder : List ℕ) → globs ≡ [] → IsTrue false ↔ MatchesBelow globs folder
 none_below globs folder e = (λ y. absurd (cc), λ (rest, bytes, some). absurd (some (sym (answer_of_none globs (path_below folder rest) e))))
 
--- a set that stores something is not empty
-pub not_empty : {A : Type 0} {stored : Option StoredValue} {s : StoredValue} {set : SetValue} → stored ≡ Some s → HasGlobs stored → s.set ≡ set → set_globs set ≡ [] → A
-not_empty is some same none = absurd (subst HasGlobs is some (ap set_globs same ∙ none))
+-- a set without a matcher has none
+pub no_globs : {Z : Type 0} {matcher : Option (Arc SetMatcherValue Z)} {set : SetValue} → matcher ≡ None → set_of matcher ≡ set → set_globs set ≡ []
+no_globs is same = ap set_globs (sym same ∙ ap set_of is)

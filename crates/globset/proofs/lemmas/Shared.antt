@@ -4,7 +4,7 @@ use Rattle.std.proofs.Crossing.{crosses}
 use Rattle.globset_glob.specs.contracts.glob.Glob as Glob
 use Rattle.globset_glob.specs.contracts.matcher.GlobMatcher as GlobMatcher
 use Rattle.glob_matching.proofs.lemmas.Shared.{compiled-send, compiled-sync, row_cache-send, row_cache-sync}
-use Rattle.set_matcher.proofs.lemmas.StoredShared.{stored-send, stored-sync, stored_searcher-send, stored_searcher-sync}
+use Rattle.set_matcher.proofs.lemmas.Shared.{matcher-send, matcher-sync}
 use Rattle.globset_glob.specs.contracts.matcher.searcher.MatcherSearcher as MatcherSearcher
 use Rattle.globset.specs.contracts.set.GlobSet as GlobSet
 use Rattle.globset.specs.contracts.searcher.Searcher as Searcher
@@ -22,10 +22,10 @@ pub glob_matcher-sync : IsSync GlobMatcher.the_row
 glob_matcher-sync = search (sendable, crosses, glob-sync, compiled-send, compiled-sync) depth 40 fits 20000
 
 pub set-send : IsSend GlobSet.the_row
-set-send = search (sendable, stored-send) depth 20
+set-send = search (sendable, crosses, matcher-send, matcher-sync) depth 20
 
 pub set-sync : IsSync GlobSet.the_row
-set-sync = search (sendable, stored-sync) depth 20
+set-sync = search (sendable, crosses, matcher-send, matcher-sync) depth 20
 
 matcher_inside-send : IsSend GlobMatcher.the_field.row
 matcher_inside-send = search (sendable, crosses, glob-send, compiled-send, compiled-sync) depth 40 fits 20000
@@ -40,13 +40,13 @@ pub matcher_searcher-sync : IsSync MatcherSearcher.the_row
 matcher_searcher-sync = search (sendable, crosses, matcher_inside-sync, compiled-send, compiled-sync, row_cache-sync) depth 40 fits 20000
 
 set_inside-send : IsSend GlobSet.the_field.row
-set_inside-send = search (sendable, stored-send) depth 20
+set_inside-send = search (sendable, crosses, matcher-send, matcher-sync) depth 20
 
 set_inside-sync : IsSync GlobSet.the_field.row
-set_inside-sync = search (sendable, stored-sync) depth 20
+set_inside-sync = search (sendable, crosses, matcher-send, matcher-sync) depth 20
 
 pub searcher-send : IsSend Searcher.the_row
-searcher-send = search (sendable, crosses, set_inside-send, stored_searcher-send) depth 40 fits 20000
+searcher-send = search (sendable, crosses, set_inside-send, matcher-send, matcher-sync, row_cache-send) depth 40 fits 20000
 
 pub searcher-sync : IsSync Searcher.the_row
-searcher-sync = search (sendable, crosses, set_inside-sync, stored_searcher-sync) depth 40 fits 20000
+searcher-sync = search (sendable, crosses, set_inside-sync, matcher-send, matcher-sync, row_cache-sync) depth 40 fits 20000

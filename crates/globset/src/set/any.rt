@@ -64,9 +64,14 @@ impl GlobSet {
         ensures counted { visits.old ≤ visits.new }
         ensures no_visits_if_empty { set_globs self.now ≡ [] → visits.new ≡ visits.old }
     {
-        let Some(stored) = &self.stored else {
+        let Some(matcher) = self.matcher() else {
             return Ok(false);
         };
-        stored.is_match(path, &mut stored.new_scratch(), &mut Caches::none(), visits)
+        Ok(matcher.is_match(
+            path,
+            &mut matcher.new_scratch(),
+            &mut Caches::none(),
+            visits,
+        )?)
     }
 }

@@ -78,15 +78,15 @@ impl GlobSet {
         ensures counted { visits.old ≤ visits.new }
         ensures no_visits_if_empty { set_globs self.now ≡ [] → visits.new ≡ visits.old }
     {
-        let Some(stored) = &self.stored else {
+        let Some(matcher) = self.matcher() else {
             return Ok(false);
         };
-        stored.can_match_below(
-            folder,
-            &mut stored.new_scratch(),
+        Ok(matcher.can_match_below(
+            folder.path(),
+            &mut matcher.new_scratch(),
             &mut Caches::none(),
             visits,
-        )
+        )?)
     }
 
     /// Like [`GlobSet::can_match_below_visits`], but with a scratch: it does not allocate, and cannot fail.
@@ -118,11 +118,11 @@ impl GlobSet {
         ensures counted { visits.old ≤ visits.new }
         ensures no_visits_if_empty { set_globs self.now ≡ [] → visits.new ≡ visits.old }
     {
-        let Some(stored) = &self.stored else {
+        let Some(matcher) = self.matcher() else {
             return false;
         };
-        stored
-            .can_match_below(folder, scratch, &mut Caches::none(), visits)
+        matcher
+            .can_match_below(folder.path(), scratch, &mut Caches::none(), visits)
             .unwrap()
     }
 }

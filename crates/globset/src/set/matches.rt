@@ -107,16 +107,17 @@ impl GlobSet {
         ensures counted { visits.old ≤ visits.new }
         ensures no_visits_if_empty { set_globs self.now ≡ [] → visits.new ≡ visits.old }
     {
-        into.clear();
-        let Some(stored) = &self.stored else {
+        let Some(matcher) = self.matcher() else {
+            into.clear();
             return Ok(());
         };
-        stored.find(
+        matcher.find(
             path,
-            &mut stored.new_scratch(),
+            &mut matcher.new_scratch(),
             &mut Caches::none(),
             into,
             visits,
-        )
+        )?;
+        Ok(())
     }
 }

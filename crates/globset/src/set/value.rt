@@ -11,7 +11,7 @@ use crate::set::storing::add;
 use glob_text::error_of_element;
 use globset_glob::{DEFAULT_DFA_SIZE_LIMIT, Glob, ValueError, ValueErrorKind};
 use serde_json::Value;
-use set_matcher::{Stored, StoredBuilder};
+use set_matcher::SetMatcherBuilder;
 use std::alloc::Global;
 
 impl GlobSet {
@@ -37,24 +37,24 @@ impl GlobSet {
         ensures err { IfErr result (IsValueErrorOf (globs_of_value (view value.now))) }
     {
         match value {
-            Value::Array(values) => Ok(GlobSet::of_stored(read_globs(alloc, values)?)),
+            Value::Array(values) => read_globs(alloc, values),
             _ => Err(ValueError::from(ValueErrorKind::NotArray)),
         }
     }
 }
 
-/// Returns what the set of the globs of these elements of an array stores. Each glob is dropped once it is added.
-fn read_globs(alloc: Global, values: &[Value]) -> Result<Stored, ValueError>
+/// Returns the set of the globs of these elements of an array. Each glob is dropped once it is added.
+fn read_globs(alloc: Global, values: &[Value]) -> Result<GlobSet, ValueError>
     ensures { MatchResult result
-        (λ stored. globs_from 0 (items_view values.now) ≡ Ok (set_globs stored.set))
+        (λ set. globs_from 0 (items_view values.now) ≡ Ok (set_globs set))
         (IsValueErrorOf (globs_from 0 (items_view values.now))) }
 {
-    let mut builder = StoredBuilder::new(alloc, values.len());
+    let mut builder = SetMatcherBuilder::new(alloc, values.len());
     for (index, value) in values.iter().enumerate() {
         match Glob::from_value(alloc, value) {
             Ok(glob) => add(&mut builder, &glob)?,
             Err(error) => return Err(error_of_element(index, error)),
         }
     }
-    Ok(builder.finish(DEFAULT_DFA_SIZE_LIMIT)?)
+    Ok(GlobSet::of_matcher(builder.finish(DEFAULT_DFA_SIZE_LIMIT)?))
 }

@@ -17,8 +17,8 @@ impl NeedsScratch for GlobSet {
     ghost indexes = { λ s. length (set_globs s) };
 
     fn states_needed(&self) -> Option<usize> {
-        match &self.stored {
-            Some(stored) => Some(stored.max_states()),
+        match self.matcher() {
+            Some(matcher) => Some(matcher.max_states()),
             None => Some(0),
         }
     }
@@ -28,8 +28,8 @@ impl NeedsScratch for GlobSet {
     }
 
     fn keep_caches(&self) {
-        if let Some(stored) = &self.stored {
-            stored.keep_caches();
+        if let Some(matcher) = self.matcher() {
+            matcher.keep_caches();
         }
     }
 }
@@ -51,10 +51,10 @@ impl GlobSet {
         ensures counted { visits.old ≤ visits.new }
         ensures no_visits_if_empty { set_globs self.now ≡ [] → visits.new ≡ visits.old }
     {
-        let Some(stored) = &self.stored else {
+        let Some(matcher) = self.matcher() else {
             return false;
         };
-        stored
+        matcher
             .is_match(path, scratch, &mut Caches::none(), visits)
             .unwrap()
     }
@@ -77,10 +77,10 @@ impl GlobSet {
         ensures counted { visits.old ≤ visits.new }
         ensures no_visits_if_empty { set_globs self.now ≡ [] → visits.new ≡ visits.old }
     {
-        let Some(stored) = &self.stored else {
+        let Some(matcher) = self.matcher() else {
             return true;
         };
-        stored
+        matcher
             .matches_all(path, scratch, &mut Caches::none(), visits)
             .unwrap()
     }
@@ -111,10 +111,11 @@ impl GlobSet {
         ensures counted { visits.old ≤ visits.new }
         ensures no_visits_if_empty { set_globs self.now ≡ [] → visits.new ≡ visits.old }
     {
-        into.clear();
-        let Some(stored) = &self.stored else {
+        let Some(matcher) = self.matcher() else {
+            into.clear();
             return Ok(());
         };
-        stored.find(path, scratch, &mut Caches::none(), into, visits)
+        matcher.find(path, scratch, &mut Caches::none(), into, visits)?;
+        Ok(())
     }
 }

@@ -1,8 +1,10 @@
 -- What is stored to tell which globs of a list match a path.
-use Rattle.std.specs.Prelude.{◌≡◌, ◌↔◌, ◌⊎◌, ℕ, ◌≤◌, List, [], ◌∷◌, ◌++◌, Contains, Option, cond, length, sum_by, IsTrue}
+use Rattle.std.specs.Prelude.{◌≡◌, ◌↔◌, ◌⊎◌, ℕ, ◌≤◌, All, List, [], ◌∷◌, ◌++◌, Contains, Option, cond, length, sum_by, IsTrue}
 use Rattle.std.specs.Global.{Box}
-use Rattle.set_matcher.specs.inner.TokenGlobs.{FlatGlob, TokenGlob, is_reported, is_reported_at, load, token_globs}
+use Rattle.set_matcher.specs.inner.TokenGlobs.{TokenGlob, is_reported, is_reported_at, load, token_globs}
 use Rattle.bit_sets.specs.Texts.{AllBytes}
+use Rattle.glob_text.specs.GlobMatches.{GlobValue, IsRead}
+use Rattle.set_matcher.specs.Work as work
 use Rattle.set_matcher.specs.inner.TokensBelow.{SomeReportedBelow, load_below}
 use Rattle.glob_path.specs.KeysBelow.{MatchesBelow}
 use Rattle.glob_path.specs.LiteralIndex.{KeyParts, keys_found}
@@ -35,14 +37,17 @@ pub record IsSetMatcherOf (globs : List TokenGlob) (g : SetMatcherParts) : Type 
 abbrev pub AddsGlob : TokenGlob → ℕ → SetMatcherParts → SetMatcherParts → Type 0
 AddsGlob glob index old new = (globs : List TokenGlob) → index ≡ length globs → IsSetMatcherOf globs old → IsSetMatcherOf (globs ++ glob ∷ []) new
 
--- What is true of the parts of each such value: they are a matcher of the globs, of which there are so many, and automata have
--- an index for each.
-pub record IsMatcherOf (given : List FlatGlob) (len : ℕ) (keys : KeyParts) (automata : AutomataParts) : Type 0 where
+-- What is true of the parts of each such value: they are a matcher of the globs, each of which was read, and of which there are
+-- so many. No more states are run than the costs of the globs allow. Automata have an index for each glob.
+pub record IsMatcherOf (given : List GlobValue) (len : ℕ) (keys : KeyParts) (automata : AutomataParts) : Type 0 where
+  pub read : All IsRead given
   pub matcher : IsSetMatcherOf (token_globs given) (set_matcher_parts keys automata)
+  pub size : (path : List ℕ) → load (token_globs given) path ≤ work.load given path
+  pub size_below : load_below (token_globs given) ≤ work.load_below given
   pub counted : len ≡ length given
   pub indexed : len ≤ automata.extensions.index_count
 
--- The same of a matcher, which has automata only if some glob needs one. The number that each index is below is n.
-pub record KeepsMatcherOf (given : List FlatGlob) (len : ℕ) (keys : KeyParts) (n : ℕ) (automata : Option (Box AutomataParts)) : Type 0 where
-  pub of_globs : IsMatcherOf given len keys (automata_or_none n automata)
-  pub count : (automata_or_none n automata).extensions.index_count ≡ n
+-- The same of a matcher, which has automata only if some glob needs one. They have no other index.
+pub record KeepsMatcherOf (given : List GlobValue) (len : ℕ) (keys : KeyParts) (automata : Option (Box AutomataParts)) : Type 0 where
+  pub of_globs : IsMatcherOf given len keys (automata_or_none len automata)
+  pub count : (automata_or_none len automata).extensions.index_count ≡ len

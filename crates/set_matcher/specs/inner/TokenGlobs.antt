@@ -1,9 +1,8 @@
 -- Globs by their tokens, and which of a list are reported for a path.
 use Rattle.std.specs.Prelude.{ℕ, ◌+◌, Bool, List, cond, length, map, sum_by}
 use Rattle.glob_syntax.specs.declared.options.Options.{Options}
-use Rattle.glob_syntax.specs.declared.token.Token.{Token}
 use Rattle.glob_syntax.specs.Token.{Tokens}
-use Rattle.glob_syntax.specs.Views.{tokens_of}
+use Rattle.glob_text.specs.GlobMatches.{GlobValue, tokens_of_glob}
 use Rattle.glob_syntax.specs.inner.Weight.{weight}
 use Rattle.glob_strategy.specs.Excluded.{are_reported}
 use Rattle.glob_strategy.specs.Direct.{needs_automaton}
@@ -18,17 +17,13 @@ pub record TokenGlob : Type 0 where
 abbrev pub token_glob : Options → Tokens → TokenGlob
 token_glob o ts = record { options = o; tokens = ts }
 
--- the same by its tokens in one list, in the order of the text, as a program has them
-pub record FlatGlob : Type 0 where
-  pub options : Options
-  pub tokens : List Token
+-- the glob by its tokens
+abbrev pub by_tokens : GlobValue → TokenGlob
+by_tokens g = token_glob g.options (tokens_of_glob g)
 
-abbrev pub flat_glob : Options → List Token → FlatGlob
-flat_glob o ts = record { options = o; tokens = ts }
-
--- each by the tree of its tokens
-abbrev pub token_globs : List FlatGlob → List TokenGlob
-token_globs globs = map (λ g. token_glob g.options (tokens_of g.tokens)) globs
+-- each of them
+abbrev pub token_globs : List GlobValue → List TokenGlob
+token_globs globs = map by_tokens globs
 
 -- the glob is not excluded and matches the path
 abbrev pub is_reported : TokenGlob → List ℕ → Bool

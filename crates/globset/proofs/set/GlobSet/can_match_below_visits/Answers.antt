@@ -1,21 +1,9 @@
-use Rattle.std.proofs.Common.{◌≡◌, IfOk, IsTrue, ap, sym, subst, ◌∙◌}
-use Rattle.std.specs.Prelude.{◌↔◌}
-use Rattle.set_matcher.specs.Below.{MatchesBelow}
-use Rattle.globset.specs.SetValue.{SetValue, set_globs}
-use Rattle.globset.specs.inner.StoredSet.{stored_set}
-use Rattle.globset.proofs.lemmas.Answer.{none_below, not_empty}
+use Rattle.globset.specs.SetValue.{set_globs}
+use Rattle.globset.proofs.lemmas.Answer.{none_below}
 use Rattle.globset.proofs.set.GlobSet.can_match_below_visits.Goals as goal
 
-pub returns-clause-ok : goal.returns-clause-ok
-returns-clause-ok c =
-    let same : c.in-Some.stored.set ≡ c.args.self.now = sym (ap stored_set c.in-Some.is) ∙ c.self.view_is in
-    subst (λ (s : SetValue). IfOk c.can_match_below.result (λ yes. IsTrue yes ↔ MatchesBelow (set_globs s) c.args.folder.now)) same c.can_match_below.ensures.ok
-
-pub returns-clause-no_visits_if_empty : goal.returns-clause-no_visits_if_empty
-returns-clause-no_visits_if_empty c = not_empty c.in-Some.is c.self.invariant (sym (ap stored_set c.in-Some.is) ∙ c.self.view_is)
-
 pub returns-in_default-clause-ok : goal.returns-in_default-clause-ok
-returns-in_default-clause-ok c = none_below (set_globs c.args.self.now) c.args.folder.now (ap set_globs (sym c.self.view_is ∙ ap stored_set c.in_default.is))
+returns-in_default-clause-ok c = none_below (set_globs c.args.self.now) c.args.folder.now (c.matcher.ensures.none c.in_default.is)
 
 pub can_match_below-requires : goal.can_match_below-requires
-can_match_below-requires c = c.none.ensures c.in-Some.stored.automata
+can_match_below-requires c = c.none.ensures c.in-Some.matcher.now.automata

@@ -1,21 +1,9 @@
-use Rattle.std.proofs.Common.{◌≡◌, [], IfOk, IsTrue, ap, sym, subst, ◌∙◌}
-use Rattle.std.specs.Prelude.{◌≢◌, ◌↔◌}
-use Rattle.set_matcher.specs.Answer.{matching_indexes}
-use Rattle.globset.specs.SetValue.{SetValue, set_globs}
-use Rattle.globset.specs.inner.StoredSet.{stored_set}
-use Rattle.globset.proofs.lemmas.Answer.{none_of_none, not_empty}
+use Rattle.globset.specs.SetValue.{set_globs}
+use Rattle.globset.proofs.lemmas.Answer.{none_of_none}
 use Rattle.globset.proofs.set.GlobSet.is_match_visits.Goals as goal
 
-pub returns-clause-ok : goal.returns-clause-ok
-returns-clause-ok c =
-    let same : c.in-Some.stored.set ≡ c.args.self.now = sym (ap stored_set c.in-Some.is) ∙ c.self.view_is in
-    subst (λ (s : SetValue). IfOk c.is_match.result (λ yes. IsTrue yes ↔ (matching_indexes (set_globs s) c.args.path.now ≢ []))) same c.is_match.ensures.ok
-
-pub returns-clause-no_visits_if_empty : goal.returns-clause-no_visits_if_empty
-returns-clause-no_visits_if_empty c = not_empty c.in-Some.is c.self.invariant (sym (ap stored_set c.in-Some.is) ∙ c.self.view_is)
-
 pub returns-in_default-clause-ok : goal.returns-in_default-clause-ok
-returns-in_default-clause-ok c = none_of_none (set_globs c.args.self.now) c.args.path.now (ap set_globs (sym c.self.view_is ∙ ap stored_set c.in_default.is))
+returns-in_default-clause-ok c = none_of_none (set_globs c.args.self.now) c.args.path.now (c.matcher.ensures.none c.in_default.is)
 
 pub is_match-requires : goal.is_match-requires
-is_match-requires c = c.none.ensures c.in-Some.stored.automata
+is_match-requires c = c.none.ensures c.in-Some.matcher.now.automata

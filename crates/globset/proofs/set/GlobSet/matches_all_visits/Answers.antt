@@ -1,19 +1,13 @@
-use Rattle.std.proofs.Common.{◌≡◌, IfOk, IsTrue, length, ap, sym, subst, ◌∙◌}
+use Rattle.std.proofs.Common.{IsTrue, length, subst}
 use Rattle.std.specs.Prelude.{◌↔◌}
-use Rattle.set_matcher.specs.Indexes.{ContainsAllBelow}
 use Rattle.set_matcher.specs.Answer.{matching_indexes}
+use Rattle.set_matcher.specs.Indexes.{ContainsAllBelow}
 use Rattle.globset.specs.SetValue.{SetValue, set_globs}
-use Rattle.globset.specs.inner.StoredSet.{stored_set}
-use Rattle.globset.proofs.lemmas.Answer.{not_empty}
 use Rattle.globset.proofs.set.GlobSet.matches_all_visits.Goals as goal
 
 pub returns-clause-ok : goal.returns-clause-ok
 returns-clause-ok c =
-    let same : c.in-Some.stored.set ≡ c.args.self.now = sym (ap stored_set c.in-Some.is) ∙ c.self.view_is in
-    subst (λ (s : SetValue). IfOk c.matches_all.result (λ yes. IsTrue yes ↔ ContainsAllBelow (matching_indexes (set_globs s) c.args.path.now) (length (set_globs s)))) same c.matches_all.ensures.ok
-
-pub returns-clause-no_visits_if_empty : goal.returns-clause-no_visits_if_empty
-returns-clause-no_visits_if_empty c = not_empty c.in-Some.is c.self.invariant (sym (ap stored_set c.in-Some.is) ∙ c.self.view_is)
+    subst (λ (s : SetValue). IsTrue c.in_ok-matches_all.field-0 ↔ ContainsAllBelow (matching_indexes (set_globs s) c.args.path.now) (length (set_globs s))) c.in-Some.ensures.set c.in_ok-matches_all.ensures.all
 
 pub matches_all-requires : goal.matches_all-requires
-matches_all-requires c = c.none.ensures c.in-Some.stored.automata
+matches_all-requires c = c.none.ensures c.in-Some.matcher.now.automata

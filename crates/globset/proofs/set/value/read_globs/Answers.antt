@@ -22,4 +22,4 @@ loop-index-preserved c =
 pub returns : goal.returns
 returns c =
     all_globs c.args.values.now c.loop-index.index c.loop-index.builder.given (globs_from 0 (items_view c.args.values.now)) c.loop-index-test.false c.loop-index.invariant.read
-    ∙ ap Ok (sym c.in_ok-finish.ensures)
+    ∙ ap Ok (sym c.in_ok-finish.ensures ∙ sym c.of_matcher.ensures.globs)

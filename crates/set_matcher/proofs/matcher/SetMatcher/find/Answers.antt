@@ -1,13 +1,13 @@
 use Rattle.std.proofs.Common.{◌≡◌, ◌≤◌, ◌+◌, ◌*◌, ℕ, List, false, true, length, ap, sym, subst, true≢false, arith, ◌∙◌}
-use Rattle.std.specs.Prelude.{◌↔◌, IsTrue, []}
+use Rattle.std.specs.Prelude.{◌↔◌, IsTrue}
 use Rattle.bit_sets.specs.Indexes.{has_index, index_capacity}
 use Rattle.bit_sets.specs.declared.index_set.IndexSet.{IndexSet}
-use Rattle.set_matcher.specs.inner.TokenGlobs.{TokenGlob, is_reported_at, reported_indexes, token_globs}
-use Rattle.set_matcher.specs.SetMatcherValue.{matcher_globs}
+use Rattle.set_matcher.specs.inner.TokenGlobs.{TokenGlob, token_globs}
+use Rattle.set_matcher.specs.SetMatcherValue.{SetMatcherValue, matcher_globs}
 use Rattle.set_matcher.specs.inner.Automata.{AreFound, AreIdle, IsFoundSet, automata_or_none, reads_for}
 use Rattle.set_matcher.specs.inner.SetMatcher.{IsSetMatcherOf, SetMatcherParts, set_matcher_parts}
 use Rattle.glob_path.proofs.lemmas.LiteralIndex.{nothing_if}
-use Rattle.set_matcher.proofs.lemmas.Given.{globs_count, with_stored}
+use Rattle.set_matcher.proofs.lemmas.Given.{found_is, globs_count, with_stored}
 use Rattle.set_matcher.proofs.lemmas.Matching.{marked_are, marked_listed, nothing_listed}
 use Rattle.set_matcher.proofs.lemmas.NoAutomata.{kept_is, none_idle}
 use Rattle.set_matcher.proofs.matcher.SetMatcher.find.Goals as goal
@@ -21,7 +21,7 @@ pub returns-clause-ok : goal.returns-clause-ok
 returns-clause-ok c =
     let text = c.parts_of-parts.result in
     let globs = token_globs c.self.inside.globs in
-    let n = c.self.inside.index_count in
+    let n = c.self.inside.len in
     let automata = automata_or_none n c.self.inside.automata in
     let g = set_matcher_parts c.self.inside.keys automata in
     let of_globs = c.self.invariant.of_globs in
@@ -48,32 +48,29 @@ returns-clause-ok c =
           )
           )
     ] in
-    let marked : (k : ℕ) → IsTrue (has_index c.find-2.new.found k) ↔ IsTrue (is_reported_at (matcher_globs c.args.self.now) c.args.path.now k) =
-    subst (λ p. (k : ℕ) → IsTrue (has_index c.find-2.new.found k) ↔ IsTrue (is_reported_at (matcher_globs c.args.self.now) p k)) (c.parts_of-parts.ensures.path ∙ c.path.ensures)
-    (subst (λ (gs : List TokenGlob). (k : ℕ) → IsTrue (has_index c.find-2.new.found k) ↔ IsTrue (is_reported_at gs text k)) (ap matcher_globs c.self.view_is)
-    (marked_listed globs g text (index_capacity c.if-not-are_run.marks) (has_index c.if-not-are_run.marks) (has_index c.find-2.new.found) matcher ready.0 ready.1 c.find-2.ensures.found)) in
-    c.in_default.ensures.pushed ∙ marked_are (matcher_globs c.args.self.now) c.args.path.now c.len.result (has_index c.find-2.new.found) (sym c.len.ensures) marked
+    let marked = marked_listed globs g text (index_capacity c.if-not-are_run.marks) (has_index c.if-not-are_run.marks) (has_index c.find-2.new.found) matcher ready.0 ready.1 c.find-2.ensures.found in
+    let count = ap (λ (v : SetMatcherValue). length (matcher_globs v)) c.self.view_is in
+    let all : length globs ≡ c.len.result = omega (arith, globs_count c.self.inside.globs, count, c.len.ensures.count) in
+    c.in_default.ensures.pushed ∙ marked_are globs text c.len.result (has_index c.find-2.new.found) all marked
+    ∙ found_is (ap matcher_globs c.self.view_is) (c.parts_of-parts.ensures.path ∙ c.path.ensures)
 
 pub returns-then-is_empty-clause-ok : goal.returns-then-is_empty-clause-ok
 returns-then-is_empty-clause-ok c =
     let text = c.parts_of-parts.result in
     let globs = token_globs c.self.inside.globs in
-    let n = c.self.inside.index_count in
+    let n = c.self.inside.len in
     let automata = automata_or_none n c.self.inside.automata in
     let g = set_matcher_parts c.self.inside.keys automata in
     let idle : AreIdle automata text = elim c.match-self.branch [
       | in-Some+in_ok-are_run-in-Some w ↦ subst (λ a. AreIdle a text) (sym (kept_is n w.in-Some.is w.deref.ensures)) (w.in_ok-are_run-in-Some.ensures.idle (sym w.are_run-is ∙ c.if-not-are_run.true))
       | in-None w ↦ none_idle n text w.in-None.is c.parts_of-parts.ensures.bytes
     ] in
-    let none : reported_indexes (matcher_globs c.args.self.now) c.args.path.now ≡ [] =
-    subst (λ p. reported_indexes (matcher_globs c.args.self.now) p ≡ []) (c.parts_of-parts.ensures.path ∙ c.path.ensures)
-    (subst (λ (gs : List TokenGlob). reported_indexes gs text ≡ []) (ap matcher_globs c.self.view_is)
-    (nothing_listed globs g text c.self.invariant.of_globs.matcher idle (nothing_if c.self.inside.keys (c.is_empty.ensures.0 c.if-is_empty.true) text))) in
-    c.clear.ensures.items ∙ sym none
+    let none = nothing_listed globs g text c.self.invariant.of_globs.matcher idle (nothing_if c.self.inside.keys (c.is_empty.ensures.0 c.if-is_empty.true) text) in
+    c.clear.ensures.items ∙ sym none ∙ found_is (ap matcher_globs c.self.view_is) (c.parts_of-parts.ensures.path ∙ c.path.ensures)
 
 pub returns-then-is_empty-clause-visits : goal.returns-then-is_empty-clause-visits
 returns-then-is_empty-clause-visits c =
-    let n = c.self.inside.index_count in
+    let n = c.self.inside.len in
     let automata = automata_or_none n c.self.inside.automata in
     let text = c.parts_of-parts.result in
     let run : c.match-self.visits ≤ c.args.visits.now + (1 + (length text + 1) * reads_for automata text) = elim c.match-self.branch [
@@ -81,19 +78,19 @@ returns-then-is_empty-clause-visits c =
           (subst (λ a. w.find.new.visits ≤ c.args.visits.now + (1 + (length text + 1) * reads_for a text)) (sym (kept_is n w.in-Some.is w.deref.ensures)) w.find.ensures.visits)
       | in-None w ↦ omega (arith, w.visits-is)
     ] in
-    with_stored (token_globs c.self.inside.globs) (matcher_globs c.args.self.now) (set_matcher_parts c.self.inside.keys automata) c.args.path.now text c.args.visits.now c.match-self.visits
-    (ap matcher_globs c.self.view_is) (c.parts_of-parts.ensures.path ∙ c.path.ensures) c.self.invariant.of_globs.matcher (omega (arith, run))
+    with_stored c.self.inside.globs (matcher_globs c.args.self.now) (set_matcher_parts c.self.inside.keys automata) c.args.path.now text c.args.visits.now c.match-self.visits
+    (ap matcher_globs c.self.view_is) (c.parts_of-parts.ensures.path ∙ c.path.ensures) c.self.invariant.of_globs.matcher c.self.invariant.of_globs.size (omega (arith, run))
 
 pub returns-in_err-are_run-in-Some-clause-visits : goal.returns-in_err-are_run-in-Some-clause-visits
 returns-in_err-are_run-in-Some-clause-visits c =
     let globs = token_globs c.self.inside.globs in
-    let matcher = subst (λ a. IsSetMatcherOf globs (set_matcher_parts c.self.inside.keys a)) (kept_is c.self.inside.index_count c.in-Some.is c.deref.ensures) c.self.invariant.of_globs.matcher in
-    with_stored globs (matcher_globs c.args.self.now) (set_matcher_parts c.self.inside.keys c.deref.result.now) c.args.path.now c.parts_of-parts.result c.args.visits.now c.find.new.visits
-    (ap matcher_globs c.self.view_is) (c.parts_of-parts.ensures.path ∙ c.path.ensures) matcher (omega (arith, c.find.ensures.visits))
+    let matcher = subst (λ a. IsSetMatcherOf globs (set_matcher_parts c.self.inside.keys a)) (kept_is c.self.inside.len c.in-Some.is c.deref.ensures) c.self.invariant.of_globs.matcher in
+    with_stored c.self.inside.globs (matcher_globs c.args.self.now) (set_matcher_parts c.self.inside.keys c.deref.result.now) c.args.path.now c.parts_of-parts.result c.args.visits.now c.find.new.visits
+    (ap matcher_globs c.self.view_is) (c.parts_of-parts.ensures.path ∙ c.path.ensures) matcher c.self.invariant.of_globs.size (omega (arith, c.find.ensures.visits))
 
 pub returns-in_err-reserve-clause-visits : goal.returns-in_err-reserve-clause-visits
 returns-in_err-reserve-clause-visits c =
-    let n = c.self.inside.index_count in
+    let n = c.self.inside.len in
     let automata = automata_or_none n c.self.inside.automata in
     let text = c.parts_of-parts.result in
     let run : c.match-self.visits ≤ c.args.visits.now + (1 + (length text + 1) * reads_for automata text) = elim c.match-self.branch [
@@ -101,12 +98,12 @@ returns-in_err-reserve-clause-visits c =
           (subst (λ a. w.find.new.visits ≤ c.args.visits.now + (1 + (length text + 1) * reads_for a text)) (sym (kept_is n w.in-Some.is w.deref.ensures)) w.find.ensures.visits)
       | in-None w ↦ omega (arith, w.visits-is)
     ] in
-    with_stored (token_globs c.self.inside.globs) (matcher_globs c.args.self.now) (set_matcher_parts c.self.inside.keys automata) c.args.path.now text c.args.visits.now c.match-self.visits
-    (ap matcher_globs c.self.view_is) (c.parts_of-parts.ensures.path ∙ c.path.ensures) c.self.invariant.of_globs.matcher (omega (arith, run))
+    with_stored c.self.inside.globs (matcher_globs c.args.self.now) (set_matcher_parts c.self.inside.keys automata) c.args.path.now text c.args.visits.now c.match-self.visits
+    (ap matcher_globs c.self.view_is) (c.parts_of-parts.ensures.path ∙ c.path.ensures) c.self.invariant.of_globs.matcher c.self.invariant.of_globs.size (omega (arith, run))
 
 pub returns-in-Err-clause-visits : goal.returns-in-Err-clause-visits
 returns-in-Err-clause-visits c =
-    let n = c.self.inside.index_count in
+    let n = c.self.inside.len in
     let automata = automata_or_none n c.self.inside.automata in
     let text = c.parts_of-parts.result in
     let run : c.match-self.visits ≤ c.args.visits.now + (1 + (length text + 1) * reads_for automata text) = elim c.match-self.branch [
@@ -114,12 +111,12 @@ returns-in-Err-clause-visits c =
           (subst (λ a. w.find.new.visits ≤ c.args.visits.now + (1 + (length text + 1) * reads_for a text)) (sym (kept_is n w.in-Some.is w.deref.ensures)) w.find.ensures.visits)
       | in-None w ↦ omega (arith, w.visits-is)
     ] in
-    with_stored (token_globs c.self.inside.globs) (matcher_globs c.args.self.now) (set_matcher_parts c.self.inside.keys automata) c.args.path.now text c.args.visits.now c.find-2.new.visits
-    (ap matcher_globs c.self.view_is) (c.parts_of-parts.ensures.path ∙ c.path.ensures) c.self.invariant.of_globs.matcher (omega (arith, run, c.find-2.ensures.visits))
+    with_stored c.self.inside.globs (matcher_globs c.args.self.now) (set_matcher_parts c.self.inside.keys automata) c.args.path.now text c.args.visits.now c.find-2.new.visits
+    (ap matcher_globs c.self.view_is) (c.parts_of-parts.ensures.path ∙ c.path.ensures) c.self.invariant.of_globs.matcher c.self.invariant.of_globs.size (omega (arith, run, c.find-2.ensures.visits))
 
 pub returns-clause-visits : goal.returns-clause-visits
 returns-clause-visits c =
-    let n = c.self.inside.index_count in
+    let n = c.self.inside.len in
     let automata = automata_or_none n c.self.inside.automata in
     let text = c.parts_of-parts.result in
     let run : c.match-self.visits ≤ c.args.visits.now + (1 + (length text + 1) * reads_for automata text) = elim c.match-self.branch [
@@ -127,5 +124,5 @@ returns-clause-visits c =
           (subst (λ a. w.find.new.visits ≤ c.args.visits.now + (1 + (length text + 1) * reads_for a text)) (sym (kept_is n w.in-Some.is w.deref.ensures)) w.find.ensures.visits)
       | in-None w ↦ omega (arith, w.visits-is)
     ] in
-    with_stored (token_globs c.self.inside.globs) (matcher_globs c.args.self.now) (set_matcher_parts c.self.inside.keys automata) c.args.path.now text c.args.visits.now c.find-2.new.visits
-    (ap matcher_globs c.self.view_is) (c.parts_of-parts.ensures.path ∙ c.path.ensures) c.self.invariant.of_globs.matcher (omega (arith, run, c.find-2.ensures.visits))
+    with_stored c.self.inside.globs (matcher_globs c.args.self.now) (set_matcher_parts c.self.inside.keys automata) c.args.path.now text c.args.visits.now c.find-2.new.visits
+    (ap matcher_globs c.self.view_is) (c.parts_of-parts.ensures.path ∙ c.path.ensures) c.self.invariant.of_globs.matcher c.self.invariant.of_globs.size (omega (arith, run, c.find-2.ensures.visits))

@@ -1,16 +1,20 @@
-use Rattle.std.proofs.Common.{length, ap, arith, sym, subst}
-use Rattle.set_matcher.specs.SetMatcherValue.{SetMatcherValue, matcher_globs}
+use Rattle.std.proofs.Common.{◌+◌, List, [], ◌∷◌, ◌++◌, length, refl, ap, arith, sym, subst, ◌∙◌}
+use Rattle.std.specs.Prelude.{string_bytes}
+use Rattle.glob_syntax.specs.Views.{tokens_of}
+use Rattle.glob_text.specs.GlobMatches.{GlobValue, glob_value}
+use Rattle.glob_text.proofs.lemmas.Globs.{tokens_are}
+use Rattle.set_matcher.specs.SetMatcherValue.{AddedGlobs}
 use Rattle.set_matcher.specs.inner.Automata.{no_automata}
 use Rattle.set_matcher.specs.inner.SetMatcher.{IsMatcherOf}
-use Rattle.set_matcher.proofs.lemmas.Given.{globs_count, no_matcher}
+use Rattle.set_matcher.proofs.lemmas.Given.{glob_added, no_matcher}
 use Rattle.set_matcher.proofs.lemmas.SetMatcher.{no_globs}
 use Rattle.set_matcher.proofs.matcher.SetMatcherBuilder.add.Goals as goal
 
 pub overflow_add-self : goal.overflow_add-self
 overflow_add-self c =
-    let count = ap (λ (v : SetMatcherValue). length (matcher_globs v)) c.self.view_is in
-    let maximum = ap (λ (v : SetMatcherValue). v.index_count) c.self.view_is in
-    omega (arith, count, maximum, globs_count c.self.inside.globs, c.self.invariant.counted, c.requires.count, c.index_count-count.ensures, c.index_count-count.type_inv)
+    let count = ap (λ (v : AddedGlobs). length v.given) c.self.view_is in
+    let maximum = ap (λ (v : AddedGlobs). v.count) c.self.view_is in
+    omega (arith, count, maximum, c.self.invariant.counted, c.requires.room, c.index_count-count.ensures, c.index_count-count.type_inv)
 
 pub invariant_of-self : goal.invariant_of-self
 invariant_of-self c =
@@ -18,3 +22,14 @@ invariant_of-self c =
     let n = c.index_count-count.result in
     subst (λ a. IsMatcherOf c.new.result 0 keys.result a) (sym c.new-in-Err-2.ensures)
     (no_matcher c.new.result keys.result (no_automata n) c.new.ensures (no_globs keys.result n keys.ensures.found keys.ensures.below))
+
+pub invariant_of-self-2 : goal.invariant_of-self-2
+invariant_of-self-2 c =
+    let g = glob_value (string_bytes c.args.text.now) c.args.options in
+    let ts = tokens_of c.args.tokens.now in
+    let all = c.and.ensures ∙ ap (λ (gs : List GlobValue). gs ++ g ∷ []) c.copy.ensures in
+    let count = ap (λ (v : AddedGlobs). length v.given) c.self.view_is in
+    let maximum = ap (λ (v : AddedGlobs). v.count) c.self.view_is in
+    subst (λ (gs : List GlobValue). IsMatcherOf gs (c.self.inside.len + 1) c.put-added.new.keys c.put-added.new.automata) (sym all)
+    (glob_added c.self.inside.globs g ts c.self.inside.len c.self.inside.keys c.put-added.new.keys c.self.inside.automata c.put-added.new.automata (tokens_are g ts c.requires.read) (rw c.requires.read refl) c.requires.weight
+    c.in_default.ensures.matcher c.put-added.ensures.count (omega (arith, count, maximum, c.requires.room)) c.self.invariant)
