@@ -25,22 +25,12 @@ pub const DEFAULT_DFA_SIZE_LIMIT: usize = 1 << 24;
 
 /// An automaton as it is run: by rows that are known, and where one is not, by rows that are made; and where there is no room for
 /// rows, stepped from one set of states to the next. Contracts see the automaton that it was made from.
+#[derive(Drop)]
 pub struct Compiled {
     source: Source,
     /// It leads to the same ends. If there is more than one start, texts that begin alike share states in it.
     dfa: Arc<LazyDfa>,
     rows: Option<RowSource>,
-}
-
-impl Drop for Compiled {
-    // One call wherever a value is dropped, which keeps proofs short.
-    fn drop(self) {
-        let Compiled {
-            source: _,
-            dfa: _,
-            rows: _,
-        } = self;
-    }
 }
 
 impl Model for Compiled {

@@ -32,6 +32,7 @@ impl Fits for Kept {
 ///
 /// A cache that many calls used has most rows that texts lead to. It is published: calls read what it has, at once and without
 /// writing, and from then on it has no more rows. Those that were published before it stay, since calls may be reading them.
+#[derive(Drop)]
 pub struct KeptCaches {
     pool: Pool<Kept>,
     first: Published,
@@ -46,23 +47,6 @@ pub struct KeptCaches {
     bytes: AtomicUsize,
     /// How many calls found none, as far as this is counted.
     misses: AtomicUsize,
-}
-
-impl Drop for KeptCaches {
-    // One call wherever a value is dropped, which keeps proofs short.
-    fn drop(self) {
-        let KeptCaches {
-            pool: _,
-            first: _,
-            second: _,
-            third: _,
-            most_bytes: _,
-            next_bytes: _,
-            made: _,
-            bytes: _,
-            misses: _,
-        } = self;
-    }
 }
 
 impl Model for KeptCaches {

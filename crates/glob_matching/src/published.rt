@@ -30,19 +30,10 @@ impl SlotRule<Kept> for IsForNumbers {
 }
 
 /// Room for one cache, for good. Contracts see the automaton that the cache is for.
+#[derive(Drop)]
 pub struct Published {
     slot: OnceSlot<Kept, IsForNumbers>,
     made_for: Snapshot<Nfa>,
-}
-
-impl Drop for Published {
-    // One call wherever a value is dropped, which keeps proofs short.
-    fn drop(self) {
-        let Published {
-            slot: _,
-            made_for: _,
-        } = self;
-    }
 }
 
 impl Model for Published {

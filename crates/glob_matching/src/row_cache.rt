@@ -19,21 +19,11 @@ use std::sync::Arc;
 
 /// The rows that texts needed so far, in a memory of fixed size. Contracts see the automaton whose ends are found: what earlier
 /// calls left has no effect on an answer.
+#[derive(Drop)]
 pub struct RowCache {
     dfa: Arc<LazyDfa>,
     cache: Cache,
     made_for: Snapshot<Snapshot<Nfa>>,
-}
-
-impl Drop for RowCache {
-    // One call wherever a value is dropped, which keeps proofs short.
-    fn drop(self) {
-        let RowCache {
-            dfa: _,
-            cache: _,
-            made_for: _,
-        } = self;
-    }
 }
 
 impl Model for RowCache {

@@ -21,6 +21,7 @@ use std::sync::Arc;
 
 /// What rows are made from, and the rows that calls share which have no cache of their own. Contracts see the automaton whose ends
 /// are found.
+#[derive(Drop)]
 pub struct RowSource {
     alloc: Global,
     /// It is made from an automaton that leads to the same ends.
@@ -30,19 +31,6 @@ pub struct RowSource {
     /// In a box, since the pool has room between its places, and a set may have many automata.
     kept: Box<KeptCaches>,
     source: Snapshot<Nfa>,
-}
-
-impl Drop for RowSource {
-    // One call wherever a value is dropped, which keeps proofs short.
-    fn drop(self) {
-        let RowSource {
-            alloc: _,
-            dfa: _,
-            cache_bytes: _,
-            kept: _,
-            source: _,
-        } = self;
-    }
 }
 
 impl Model for RowSource {

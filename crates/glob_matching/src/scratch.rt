@@ -61,6 +61,7 @@ pub trait NeedsScratch {
 /// let path = Candidate::new("a.c");
 /// assert!(rt; !set.matches_all_with(&path, &mut scratch, &mut visits));
 /// ```
+#[derive(Drop)]
 pub struct Scratch {
     states: usize,
     indexes: usize,
@@ -68,18 +69,6 @@ pub struct Scratch {
     pub sets: StateSets,
     /// The indexes that are found, which are marked here, for the calls that match.
     pub marks: IndexSet,
-}
-
-impl Drop for Scratch {
-    // One call wherever a value is dropped, which keeps proofs short.
-    fn drop(self) {
-        let Scratch {
-            states: _,
-            indexes: _,
-            sets: _,
-            marks: _,
-        } = self;
-    }
 }
 
 impl Model for Scratch {

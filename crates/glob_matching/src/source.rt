@@ -11,22 +11,12 @@ use std::marker::Model;
 use std::snapshot::Snapshot;
 
 /// How many states an automaton has, and by which bytes texts end that lead to an end. Contracts see the automaton.
+#[derive(Drop)]
 pub struct Source {
     state_count: usize,
     /// A text that ends with another byte leads to no end.
     last_bytes: ByteSet,
     nfa: Snapshot<Nfa>,
-}
-
-impl Drop for Source {
-    // One call wherever a value is dropped, which keeps proofs short.
-    fn drop(self) {
-        let Source {
-            state_count: _,
-            last_bytes: _,
-            nfa: _,
-        } = self;
-    }
 }
 
 impl Model for Source {

@@ -19,6 +19,7 @@ use std::marker::Model;
 use std::snapshot::Snapshot;
 
 /// An automaton as it is run. A [`Cache`](crate::Cache) makes its rows.
+#[derive(Drop)]
 pub struct LazyDfa {
     /// The automaton with an end in place of each state that decides an index. So an index that is decided takes no state any more,
     /// but for those from which it is decided again.
@@ -29,19 +30,6 @@ pub struct LazyDfa {
     /// The indexes that may be found.
     pub(crate) indexes: Vec<usize>,
     pub(crate) source: Snapshot<Nfa>,
-}
-
-impl Drop for LazyDfa {
-    // One call wherever a value is dropped, which keeps proofs short.
-    fn drop(self) {
-        let LazyDfa {
-            automaton: _,
-            classes: _,
-            live: _,
-            indexes: _,
-            source: _,
-        } = self;
-    }
 }
 
 impl Model for LazyDfa {

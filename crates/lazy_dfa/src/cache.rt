@@ -18,20 +18,11 @@ use std::snapshot::Snapshot;
 ///
 /// A cache is made for one automaton. Contracts see it as the automaton that this was made from: what earlier calls left has no
 /// effect on an answer.
+#[derive(Drop)]
 pub struct Cache {
     // In a box, since a cache is moved from call to call while a searcher is made.
     rows: Box<Rows>,
     made_for: Snapshot<LazyDfa>,
-}
-
-impl Drop for Cache {
-    // One call wherever a value is dropped, which keeps proofs short.
-    fn drop(self) {
-        let Cache {
-            rows: _,
-            made_for: _,
-        } = self;
-    }
 }
 
 impl Model for Cache {

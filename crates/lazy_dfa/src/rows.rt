@@ -85,6 +85,7 @@ struct Found {
 ///
 /// All memory is taken when it is made. If there is no room for a row more, all rows are forgotten. A run holds a row as the place
 /// where its entries begin, so that it need not multiply for each byte.
+#[derive(Drop)]
 pub struct Rows {
     class_of: [u8; 256],
     class_count: usize,
@@ -114,28 +115,6 @@ pub struct Rows {
     list: Vec<u32>,
     /// The list of the indexes in `ends`.
     told: Vec<u32>,
-}
-
-impl Drop for Rows {
-    // One call wherever a value is dropped, which keeps proofs short.
-    fn drop(self) {
-        let Rows {
-            class_of: _,
-            class_count: _,
-            starts: _,
-            lists: _,
-            entries: _,
-            table: _,
-            seed: _,
-            begin: _,
-            first: _,
-            from: _,
-            next: _,
-            ends: _,
-            list: _,
-            told: _,
-        } = self;
-    }
 }
 
 impl Rows {

@@ -10,22 +10,12 @@ use std::alloc::{AllocError, Global};
 ///
 /// They serve runs of any automata, one after another. A run clears each set before it uses it, so what runs before left in them
 /// has no effect.
+#[derive(Drop)]
 pub struct StateSets {
     pub(crate) current: StateSet,
     pub(crate) next: StateSet,
     /// The most states that room was made for.
     reserved: usize,
-}
-
-impl Drop for StateSets {
-    // One call wherever a value is dropped, which keeps proofs short.
-    fn drop(self) {
-        let StateSets {
-            current: _,
-            next: _,
-            reserved: _,
-        } = self;
-    }
 }
 
 impl StateSets {
