@@ -7,7 +7,7 @@ import os
 from array import array
 from collections import deque
 from itertools import accumulate, compress
-from typing import Deque, Iterable, List, Tuple, Type, TypeVar, Union, cast
+from typing import Any, Deque, Iterable, List, Tuple, Type, TypeVar, Union
 
 from . import _library
 from ._errors import glob_error
@@ -251,10 +251,11 @@ def _bytes_of(path: Path) -> bytes:
         return path.encode("utf-8", "surrogateescape")
     if type(path) is bytes:
         return path
-    data = os.fspath(path)
+    other: Any = path
+    data: Any = os.fspath(other)
     if issubclass(type(data), str):
-        return str.encode(cast(str, data), "utf-8", "surrogateescape")
-    return bytes.__getitem__(cast(bytes, data), slice(None))
+        return str.encode(data, "utf-8", "surrogateescape")
+    return bytes.__getitem__(data, slice(None))
 
 
 def _many(paths: Iterable[_AnyPath]) -> Iterable[_AnyPath]:
