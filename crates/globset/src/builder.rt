@@ -1,7 +1,6 @@
 //! Builders of sets.
 
-use crate::set::GlobSet;
-use crate::set::storing::{set_of_globs, set_of_slice};
+use crate::set::{GlobSet, set_of_globs, set_of_slice};
 use globset_glob::{DEFAULT_DFA_SIZE_LIMIT, Error, Glob};
 use std::alloc::{AllocError, Global};
 use std::marker::Model;

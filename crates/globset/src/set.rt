@@ -1,25 +1,25 @@
 //! Sets of globs.
 
-ghost use Rattle.std.specs.Prelude.{◌≡◌, ◌≢◌, ◌↔◌, All, List, [], None, IfOk, IfSome, IsOkUnless, IsSome, IsTrue, length, map};
+ghost use Rattle.std.specs.Prelude.{◌≡◌, ◌≢◌, ◌↔◌, ◌<◌, ◌++◌, ◌∷◌, All, List, MatchResult, [], None, Ok, IfErr, IfOk, IfSome, IsOkUnless, IsSome, IsTrue, OnErr, OnOk, length, map};
 ghost use Rattle.std.specs.Arc.{arc_value};
 ghost use Rattle.std.specs.Borrow.{Bor};
 ghost use Rattle.std.specs.Iterator.{Drains, IsFinite};
 ghost use Rattle.globset_glob.specs.Errors.{out_of_memory};
 ghost use Rattle.globset_glob.specs.GlobMatches.{GlobValue, IsRead};
+ghost use Rattle.globset_glob.specs.ValueErrors.{IsValueErrorOf};
+ghost use Rattle.serde_json.specs.View.{items_view, view};
+ghost use Rattle.globset.specs.SetFromValue.{globs_from, globs_of_value};
 ghost use Rattle.globset.specs.SetValue.{set_globs, set_states, builder_globs};
 
-mod all;
-mod any;
-mod below;
-mod matches;
-pub(crate) mod storing;
-mod value;
-mod with;
+mod matching;
 
 use crate::builder::GlobSetBuilder;
-use crate::set::storing::set_of_references;
-use globset_glob::{Error, Glob};
-use set_matcher::SetMatcher;
+use glob_text::error_of_element;
+use globset_glob::{
+    DEFAULT_DFA_SIZE_LIMIT, Error, Glob, ValueError, ValueErrorKind, options_of, text_of, tokens_of,
+};
+use serde_json::Value;
+use set_matcher::{SetMatcher, SetMatcherBuilder};
 use std::alloc::{AllocError, Global};
 use std::fmt;
 use std::marker::Model;
@@ -144,6 +144,33 @@ impl GlobSet {
         Ok(set_of_references(alloc, &references)?)
     }
 
+    /// Returns the set of the globs in a JSON array, in order. Each element is a text or an object with options, and is read as
+    /// [`Glob::from_value`] reads it.
+    ///
+    /// Returns one of these errors:
+    ///
+    /// - the error of the first element that is not a glob, with its index;
+    /// - [`ValueErrorKind::NotArray`] if the value is not an array, with no index;
+    /// - [`ValueErrorKind::Glob`] of an out-of-memory error if memory runs out, with no index.
+    ///
+    /// ```rust
+    /// use globset::GlobSet;
+    /// use serde_json::Value;
+    ///
+    /// let text = r#"["*.rs", {"glob": "*.MD", "case_insensitive": true}]"#;
+    /// let set = GlobSet::from_value(alloc, &Value::from_str(alloc, text)?)?;
+    /// assert_eq!(rt; set.matches(alloc, "readme.md")?.as_slice(), [1].as_slice());
+    /// ```
+    pub fn from_value(alloc: Global, value: &Value) -> Result<GlobSet, ValueError>
+        ensures ok { IfOk result (λ set. globs_of_value (view value.now) ≡ Ok (set_globs set)) }
+        ensures err { IfErr result (IsValueErrorOf (globs_of_value (view value.now))) }
+    {
+        match value {
+            Value::Array(values) => read_globs(alloc, values),
+            _ => Err(ValueError::from(ValueErrorKind::NotArray)),
+        }
+    }
+
     /// Returns an equal set, which shares the keys and automata. It does not allocate, and takes little time for sets of any
     /// size. Returns an error only if 2^63 sets share them.
     pub fn clone(&self) -> Result<GlobSet, Error>
@@ -192,7 +219,7 @@ impl GlobSet {
 
     /// Returns what the set matches with, or `None` if it has no globs.
     #[inline(always)]
-    fn matcher(&self) -> Option<&SetMatcher>
+    pub(crate) fn matcher(&self) -> Option<&SetMatcher>
         ensures set { IfSome result (λ m. m.now.set ≡ self.now) }
         ensures globs { IsSome result → set_globs self.now ≢ [] }
         ensures none { result ≡ None → set_globs self.now ≡ [] }
@@ -245,4 +272,76 @@ impl fmt::Debug for GlobSet {
             .field("kept_bytes", &self.kept_bytes())
             .finish()
     }
+}
+
+/// Adds a glob after those that were added. It takes time and memory linear in the glob's text. Returns an error if memory runs
+/// out; the builder then has no globs.
+fn add(builder: &mut SetMatcherBuilder, glob: &Glob) -> Result<(), AllocError>
+    requires { length builder.old.given < builder.old.count }
+    ensures glob { OnOk result (builder.new.given ≡ builder.old.given ++ glob.now ∷ []) }
+    ensures none { OnErr result (builder.new.given ≡ []) }
+    ensures count { builder.new.count ≡ builder.old.count }
+{
+    builder.add(text_of(glob), options_of(glob), tokens_of(glob))
+}
+
+/// Returns the set of these globs, in order. They are not copied. The rows that it keeps take at most `dfa_size_limit` bytes.
+/// Returns an error only if memory runs out.
+pub(crate) fn set_of_slice(
+    alloc: Global,
+    dfa_size_limit: usize,
+    globs: &[Glob],
+) -> Result<GlobSet, Error>
+    ensures ok { IfOk result (λ s. set_globs s ≡ globs.now) }
+    ensures err { IsOkUnless result out_of_memory }
+{
+    let mut builder = SetMatcherBuilder::new(alloc, globs.len());
+    for glob in globs {
+        add(&mut builder, glob)?;
+    }
+    Ok(GlobSet::of_matcher(builder.finish(dfa_size_limit)?))
+}
+
+/// Returns the set of these globs, as [`set_of_slice`] does, and drops each once it is added.
+pub(crate) fn set_of_globs(
+    alloc: Global,
+    dfa_size_limit: usize,
+    globs: Vec<Glob>,
+) -> Result<GlobSet, Error>
+    ensures ok { IfOk result (λ s. set_globs s ≡ globs.items) }
+    ensures err { IsOkUnless result out_of_memory }
+{
+    let mut builder = SetMatcherBuilder::new(alloc, globs.len());
+    for glob in globs {
+        add(&mut builder, &glob)?;
+    }
+    Ok(GlobSet::of_matcher(builder.finish(dfa_size_limit)?))
+}
+
+/// Returns the set of these globs, as [`set_of_slice`] does, under the default limit.
+fn set_of_references(alloc: Global, references: &[&Glob]) -> Result<GlobSet, Error>
+    ensures ok { IfOk result (λ s. set_globs s ≡ map (λ g. g.now) references.now) }
+    ensures err { IsOkUnless result out_of_memory }
+{
+    let mut builder = SetMatcherBuilder::new(alloc, references.len());
+    for glob in references {
+        add(&mut builder, glob)?;
+    }
+    Ok(GlobSet::of_matcher(builder.finish(DEFAULT_DFA_SIZE_LIMIT)?))
+}
+
+/// Returns the set of the globs of these elements of an array. Each glob is dropped once it is added.
+fn read_globs(alloc: Global, values: &[Value]) -> Result<GlobSet, ValueError>
+    ensures { MatchResult result
+        (λ set. globs_from 0 (items_view values.now) ≡ Ok (set_globs set))
+        (IsValueErrorOf (globs_from 0 (items_view values.now))) }
+{
+    let mut builder = SetMatcherBuilder::new(alloc, values.len());
+    for (index, value) in values.iter().enumerate() {
+        match Glob::from_value(alloc, value) {
+            Ok(glob) => add(&mut builder, &glob)?,
+            Err(error) => return Err(error_of_element(index, error)),
+        }
+    }
+    Ok(GlobSet::of_matcher(builder.finish(DEFAULT_DFA_SIZE_LIMIT)?))
 }

@@ -5,4 +5,3 @@ pub mod SetMatcher
 pub mod ExtensionSlots
 pub mod Caches
 pub mod TokenGlobs
-pub mod TokensBelow

@@ -34,6 +34,7 @@ use std::marker::Model;
 
 /// Automata for globs, by the part of a path that they are run on: the whole path, its last component, or the whole path if its
 /// last component has some extension.
+#[derive(Drop)]
 pub struct Automata {
     by_path: Compiled,
     by_component: Compiled,
@@ -42,19 +43,6 @@ pub struct Automata {
     max_states: usize,
     /// Whether some text matches tokens of `by_component`.
     has_component: bool,
-}
-
-impl Drop for Automata {
-    // One call wherever a value is dropped, which keeps proofs short.
-    fn drop(self) {
-        let Automata {
-            by_path: _,
-            by_component: _,
-            extensions: _,
-            max_states: _,
-            has_component: _,
-        } = self;
-    }
 }
 
 impl Model for Automata {
@@ -254,6 +242,7 @@ impl Automata {
 }
 
 /// Makes [`Automata`] if some glob needs one. Until then it has no builders, so that little is moved for a set that needs none.
+#[derive(Drop)]
 pub struct AutomataBuilder {
     index_count: usize,
     /// They are made for the first glob that needs an automaton.
@@ -266,16 +255,6 @@ struct Builders {
     by_path: Builder,
     by_component: Builder,
     extensions: ExtensionMatchersBuilder,
-}
-
-impl Drop for AutomataBuilder {
-    // One call wherever a value is dropped, which keeps proofs short.
-    fn drop(self) {
-        let AutomataBuilder {
-            index_count: _,
-            builders: _,
-        } = self;
-    }
 }
 
 impl Model for AutomataBuilder {

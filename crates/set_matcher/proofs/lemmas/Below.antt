@@ -13,8 +13,7 @@ use Rattle.glob_nfa.specs.IndexedTokens.{IndexedTokens, IsFor}
 use Rattle.glob_nfa.proofs.lemmas.IndexedTokens.{reached_matches}
 use Rattle.glob_matching.proofs.lemmas.Compiled.{some_after, after_some}
 use Rattle.glob_path.specs.KeysBelow.{MatchesBelow}
-use Rattle.set_matcher.specs.inner.TokensBelow.{SomeReportedBelow}
-use Rattle.set_matcher.specs.inner.TokenGlobs.{TokenGlob}
+use Rattle.set_matcher.specs.inner.TokenGlobs.{TokenGlob, SomeReportedBelow}
 use Rattle.set_matcher.specs.Visits.{visits_below_for}
 use Rattle.set_matcher.specs.inner.Automata.{AreFoundBelow, max_size, total_reads}
 use Rattle.set_matcher.specs.inner.SetMatcher.{SetMatcherParts, IsSetMatcherOf}

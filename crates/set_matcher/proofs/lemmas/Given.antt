@@ -21,8 +21,7 @@ use Rattle.set_matcher.specs.Work as work
 use Rattle.set_matcher.specs.inner.Automata.{AutomataParts, folder_reads, reads_for}
 use Rattle.set_matcher.specs.inner.SetMatcher.{AddsGlob, IsMatcherOf, IsSetMatcherOf, SetMatcherParts, set_matcher_parts}
 use Rattle.set_matcher.specs.inner.TokenGlobs as tokens
-use Rattle.set_matcher.specs.inner.TokenGlobs.{TokenGlob, by_tokens, reported_indexes, token_glob, token_globs}
-use Rattle.set_matcher.specs.inner.TokensBelow.{SomeReportedBelow, load_below, reads_below}
+use Rattle.set_matcher.specs.inner.TokenGlobs.{TokenGlob, by_tokens, reported_indexes, token_glob, token_globs, SomeReportedBelow, load_below, reads_below}
 use Rattle.set_matcher.proofs.lemmas.Below.{below_visits}
 use Rattle.set_matcher.proofs.lemmas.Visits.{with_keys}
 

@@ -1,11 +1,10 @@
 -- What is stored to tell which globs of a list match a path.
 use Rattle.std.specs.Prelude.{◌≡◌, ◌↔◌, ◌⊎◌, ℕ, ◌≤◌, All, List, [], ◌∷◌, ◌++◌, Contains, Option, cond, length, sum_by, IsTrue}
 use Rattle.std.specs.Global.{Box}
-use Rattle.set_matcher.specs.inner.TokenGlobs.{TokenGlob, is_reported, is_reported_at, load, token_globs}
+use Rattle.set_matcher.specs.inner.TokenGlobs.{TokenGlob, is_reported, is_reported_at, load, token_globs, SomeReportedBelow, load_below}
 use Rattle.bit_sets.specs.Texts.{AllBytes}
 use Rattle.glob_text.specs.GlobMatches.{GlobValue, IsRead}
 use Rattle.set_matcher.specs.Work as work
-use Rattle.set_matcher.specs.inner.TokensBelow.{SomeReportedBelow, load_below}
 use Rattle.glob_path.specs.KeysBelow.{MatchesBelow}
 use Rattle.glob_path.specs.LiteralIndex.{KeyParts, keys_found}
 use Rattle.set_matcher.specs.inner.Automata.{AutomataParts, TokenLists, AreForLists, AreFound, AreFoundBelow, automata_or_none, folder_reads, reads_for}

@@ -1,13 +1,14 @@
--- Globs by their tokens, and which of a list are reported for a path.
-use Rattle.std.specs.Prelude.{ℕ, ◌+◌, Bool, List, cond, length, map, sum_by}
+-- Globs by their tokens, and which of a list are reported for a path, or for some path below a folder.
+use Rattle.std.specs.Prelude.{◌≢◌, ℕ, ◌+◌, Bool, List, [], cond, map, sum_by}
+use Rattle.bit_sets.specs.Texts.{AllBytes}
+use Rattle.glob_path.specs.Below.{path_below}
 use Rattle.glob_syntax.specs.declared.options.Options.{Options}
 use Rattle.glob_syntax.specs.Token.{Tokens}
 use Rattle.glob_text.specs.GlobMatches.{GlobValue, tokens_of_glob}
 use Rattle.glob_syntax.specs.inner.Weight.{weight}
 use Rattle.glob_strategy.specs.Excluded.{are_reported}
-use Rattle.glob_strategy.specs.Direct.{needs_automaton}
+use Rattle.glob_strategy.specs.Direct.{is_direct, needs_automaton}
 use Rattle.set_matcher.specs.Indexes.{passes_at, passing_indexes}
-use Rattle.set_matcher.specs.Visits.{visits_for}
 
 -- a glob: its tokens, and the options that they are matched under
 pub record TokenGlob : Type 0 where
@@ -45,6 +46,17 @@ reads g path = cond (needs_automaton g.options g.tokens path) (weight g.options 
 abbrev pub load : List TokenGlob → List ℕ → ℕ
 load globs path = sum_by (λ g. reads g path) globs
 
--- the most visits for a path
-abbrev pub max_visits : List TokenGlob → List ℕ → ℕ
-max_visits globs path = visits_for (length path) (load globs path)
+-- ---- below a folder
+
+-- some glob of the list is reported for some path below the folder: the folder, a `/`, and any bytes, perhaps none
+abbrev pub SomeReportedBelow : List TokenGlob → List ℕ → Type 0
+SomeReportedBelow globs folder = (rest : List ℕ) × AllBytes rest × (reported_indexes globs (path_below folder rest) ≢ [])
+
+-- The most reads for the glob at a position of a folder: its states, and three entries of a filter. A direct glob has none.
+-- Others are not told apart by the endings that they require, since a path below the folder may have any.
+abbrev pub reads_below : TokenGlob → ℕ
+reads_below g = cond (is_direct g.options g.tokens) 0 (weight g.options g.tokens + 4)
+
+-- the same of all globs of a list
+abbrev pub load_below : List TokenGlob → ℕ
+load_below globs = sum_by (λ g. reads_below g) globs

@@ -24,23 +24,12 @@ use std::alloc::{AllocError, Global};
 use std::marker::Model;
 
 /// An automaton for each extension that some glob requires. The slot of an extension is the position of its automaton.
+#[derive(Drop)]
 pub struct ExtensionMatchers {
     slots: Table,
     automata: Vec<Compiled>,
     none: Compiled,
     index_count: usize,
-}
-
-impl Drop for ExtensionMatchers {
-    // One call wherever a value is dropped, which keeps proofs short.
-    fn drop(self) {
-        let ExtensionMatchers {
-            slots: _,
-            automata: _,
-            none: _,
-            index_count: _,
-        } = self;
-    }
 }
 
 impl Model for ExtensionMatchers {
@@ -186,23 +175,12 @@ impl ExtensionMatchers {
 }
 
 /// Makes [`ExtensionMatchers`].
+#[derive(Drop)]
 pub struct ExtensionMatchersBuilder {
     slots: ExtensionSlots,
     builders: Vec<Builder>,
     none: Builder,
     index_count: usize,
-}
-
-impl Drop for ExtensionMatchersBuilder {
-    // One call wherever a value is dropped, which keeps proofs short.
-    fn drop(self) {
-        let ExtensionMatchersBuilder {
-            slots: _,
-            builders: _,
-            none: _,
-            index_count: _,
-        } = self;
-    }
 }
 
 impl Model for ExtensionMatchersBuilder {

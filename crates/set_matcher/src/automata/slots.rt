@@ -11,20 +11,11 @@ use std::collections::BTreeMap;
 use std::marker::Model;
 
 /// Extensions and their slots, in the order in which they were added.
+#[derive(Drop)]
 pub struct ExtensionSlots {
     table: TableBuilder,
     // The same slots, for lookups before the table is built.
     by_extension: BTreeMap<Vec<u8>, usize>,
-}
-
-impl Drop for ExtensionSlots {
-    // One call wherever a value is dropped, which keeps proofs short.
-    fn drop(self) {
-        let ExtensionSlots {
-            table: _,
-            by_extension: _,
-        } = self;
-    }
 }
 
 impl Model for ExtensionSlots {

@@ -1,9 +1,7 @@
-use Rattle.std.proofs.Common.{List, ap, sym, subst, arith, true, false, true≢false, ◌∙◌}
-use Rattle.std.specs.Prelude.{◌↔◌, IsTrue}
+use Rattle.std.proofs.Common.{ap, sym, subst, arith, true, false, true≢false, ◌∙◌}
 use Rattle.std.proofs.lemmas.Result.{IfOk-weaker}
 use Rattle.bit_sets.proofs.lemmas.Texts.{all_bytes}
-use Rattle.set_matcher.specs.inner.TokensBelow.{SomeReportedBelow}
-use Rattle.set_matcher.specs.inner.TokenGlobs.{TokenGlob, token_globs}
+use Rattle.set_matcher.specs.inner.TokenGlobs.{token_globs}
 use Rattle.set_matcher.specs.SetMatcherValue.{matcher_globs}
 use Rattle.set_matcher.specs.inner.Automata.{automata_or_none}
 use Rattle.set_matcher.specs.inner.SetMatcher.{IsSetMatcherOf, set_matcher_parts}

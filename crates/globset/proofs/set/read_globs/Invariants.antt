@@ -2,7 +2,7 @@ use Rattle.std.proofs.Common.{◌≡◌, length, drop}
 use Rattle.serde_json.specs.View.{items_view}
 use Rattle.globset.specs.SetFromValue.{globs_from}
 use Rattle.globset.proofs.lemmas.SetFromValue.{onto}
-use Rattle.globset.proofs.set.value.read_globs.Given as goal
+use Rattle.globset.proofs.set.read_globs.Given as goal
 
 abbrev pub invariant-loop-index : goal.invariant-loop-index
 invariant-loop-index l = record {

@@ -1,5 +1,5 @@
 use Rattle.std.proofs.Common.{◌≡◌, length, take}
-use Rattle.globset.proofs.set.storing.set_of_slice.Given as goal
+use Rattle.globset.proofs.set.set_of_slice.Given as goal
 
 abbrev pub invariant-loop-glob : goal.invariant-loop-glob
 invariant-loop-glob l = record {

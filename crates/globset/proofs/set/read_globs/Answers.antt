@@ -2,7 +2,7 @@ use Rattle.std.proofs.Common.{refl, ap, sym, arith, Ok, ◌∷◌, [], length, l
 use Rattle.serde_json.specs.View.{items_view}
 use Rattle.globset.specs.SetFromValue.{globs_from}
 use Rattle.globset.proofs.lemmas.SetFromValue.{one_glob, one_error, all_globs}
-use Rattle.globset.proofs.set.value.read_globs.Goals as goal
+use Rattle.globset.proofs.set.read_globs.Goals as goal
 
 pub returns-in-Err : goal.returns-in-Err
 returns-in-Err c =

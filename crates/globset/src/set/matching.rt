@@ -1,0 +1,486 @@
+//! The calls on a set for a path and for a folder.
+
+ghost use Rattle.std.specs.Prelude.{◌≡◌, ◌≢◌, ◌+◌, ◌≤◌, ◌↔◌, [], IfOk, IsOk, IsOkUnless, OnOk, OnErr, IsTrue, length, vec_capacity};
+ghost use Rattle.globset_glob.specs.Errors.{out_of_memory};
+ghost use Rattle.set_matcher.specs.Answer.{matching_indexes};
+ghost use Rattle.set_matcher.specs.Below.{MatchesBelow};
+ghost use Rattle.set_matcher.specs.Indexes.{ContainsAllBelow};
+ghost use Rattle.set_matcher.specs.Work.{load, load_below, max_set_visits, max_set_visits_below};
+ghost use Rattle.globset.specs.SetValue.{Fits, set_globs, set_states};
+
+use crate::set::GlobSet;
+use globset_glob::{AsPath, Candidate, Error, NeedsScratch, Scratch, Visits};
+use set_matcher::Caches;
+use std::alloc::Global;
+
+impl GlobSet {
+    /// Returns the indexes, ascending, of the globs that match the path. Excluded globs are left out.
+    ///
+    /// Returns an error only if memory runs out. It needs no memory if the set has no globs.
+    pub fn matches<P: AsPath>(&self, alloc: Global, path: P) -> Result<Vec<usize>, Error>
+        ensures ok { IfOk result
+            (λ v. v.items ≡ matching_indexes (set_globs self.now) (P.text path)) }
+        ensures err { IsOkUnless result out_of_memory }
+        ensures succeeds_if_empty { set_globs self.now ≡ [] → IsOk result }
+    {
+        let mut indexes = Vec::new(alloc);
+        let mut visits = Visits::new();
+        self.matches_visits(&Candidate::new(path.path_text()), &mut indexes, &mut visits)?;
+        Ok(indexes)
+    }
+
+    /// Returns the indexes, ascending, of the globs that match the candidate's path. Excluded globs are left out.
+    ///
+    /// Returns an error only if memory runs out. It needs no memory if the set has no globs.
+    pub fn matches_candidate(
+        &self,
+        alloc: Global,
+        path: &Candidate<'_>,
+    ) -> Result<Vec<usize>, Error>
+        ensures ok { IfOk result (λ v. v.items ≡ matching_indexes (set_globs self.now) path.now) }
+        ensures err { IsOkUnless result out_of_memory }
+        ensures succeeds_if_empty { set_globs self.now ≡ [] → IsOk result }
+    {
+        let mut indexes = Vec::new(alloc);
+        let mut visits = Visits::new();
+        self.matches_visits(path, &mut indexes, &mut visits)?;
+        Ok(indexes)
+    }
+
+    /// Replaces the vector's items by the indexes that [`GlobSet::matches`] returns. The vector's capacity is reused.
+    ///
+    /// ```rust
+    /// use globset::{Glob, GlobSet};
+    ///
+    /// let set = GlobSet::new(alloc, [&Glob::new(alloc, "*.c")?])?;
+    /// let mut indexes = Vec::new(alloc);
+    /// set.matches_into("a.c", &mut indexes)?;
+    /// assert_eq!(rt; indexes.as_slice(), [0].as_slice());
+    /// set.matches_into("a.h", &mut indexes)?;
+    /// assert!(rt; indexes.is_empty());
+    /// ```
+    ///
+    /// Returns an error only if memory runs out; the vector is then empty. It needs no memory if the set has no globs.
+    pub fn matches_into<P: AsPath>(&self, path: P, into: &mut Vec<usize>) -> Result<(), Error>
+        ensures ok { OnOk result
+            (into.new.items ≡ matching_indexes (set_globs self.now) (P.text path)) }
+        ensures err { IsOkUnless result out_of_memory }
+        ensures succeeds_if_empty { set_globs self.now ≡ [] → IsOk result }
+        ensures cleared { OnErr result (into.new.items ≡ []) }
+    {
+        self.matches_candidate_into(&Candidate::new(path.path_text()), into)
+    }
+
+    /// Replaces the vector's items by the indexes that [`GlobSet::matches_candidate`] returns. The vector's capacity is
+    /// reused.
+    ///
+    /// Returns an error only if memory runs out; the vector is then empty. It needs no memory if the set has no globs.
+    pub fn matches_candidate_into(
+        &self,
+        path: &Candidate<'_>,
+        into: &mut Vec<usize>,
+    ) -> Result<(), Error>
+        ensures ok { OnOk result (into.new.items ≡ matching_indexes (set_globs self.now) path.now) }
+        ensures err { IsOkUnless result out_of_memory }
+        ensures succeeds_if_empty { set_globs self.now ≡ [] → IsOk result }
+        ensures cleared { OnErr result (into.new.items ≡ []) }
+    {
+        let mut visits = Visits::new();
+        self.matches_visits(path, into, &mut visits)
+    }
+
+    /// Like [`GlobSet::matches_candidate_into`], but also counts the visits.
+    ///
+    /// It adds at most `4 + 2 * (path bytes + 1)`, and `path bytes + 1` times `4 * glob bytes + 4` for each glob that needs an
+    /// automaton for the path (`16 * glob bytes + 4` under `whole_character`), also if memory runs out; and none if the set has
+    /// no globs. It looks up the path and its parts in four tables and two tries, and runs at most three automata, each once.
+    /// The call takes a bit of memory for each glob above the first 64, and two for each state of an automaton that is stepped.
+    /// The vector grows for the indexes.
+    ///
+    /// Returns an error only if memory runs out; the vector is then empty. It needs no memory if the set has no globs.
+    pub fn matches_visits(
+        &self,
+        path: &Candidate<'_>,
+        into: &mut Vec<usize>,
+        visits: &mut Visits,
+    ) -> Result<(), Error>
+        ensures ok { OnOk result (into.new.items ≡ matching_indexes (set_globs self.now) path.now) }
+        ensures err { IsOkUnless result out_of_memory }
+        ensures succeeds_if_empty { set_globs self.now ≡ [] → IsOk result }
+        ensures cleared { OnErr result (into.new.items ≡ []) }
+        ensures visits { visits.new ≤ visits.old + max_set_visits (set_globs self.now) path.now }
+        ensures counted { visits.old ≤ visits.new }
+        ensures no_visits_if_empty { set_globs self.now ≡ [] → visits.new ≡ visits.old }
+    {
+        let Some(matcher) = self.matcher() else {
+            into.clear();
+            return Ok(());
+        };
+        matcher.find(
+            path,
+            &mut matcher.new_scratch(),
+            &mut Caches::none(),
+            into,
+            visits,
+        )?;
+        Ok(())
+    }
+
+    /// Like [`GlobSet::matches_visits`], but with a scratch: only the vector may grow.
+    ///
+    /// The scratch has to fit the set. It then fits each set that it fitted before, after an error too. The bound on the visits
+    /// is the same.
+    ///
+    /// Returns an error only if memory runs out; the vector is then empty. It needs no memory if the vector has a capacity
+    /// of [`GlobSet::len`]. The capacity never shrinks, so that later calls need none either.
+    pub fn matches_into_with(
+        &self,
+        path: &Candidate<'_>,
+        scratch: &mut Scratch,
+        into: &mut Vec<usize>,
+        visits: &mut Visits,
+    ) -> Result<(), Error>
+        requires { Fits scratch.old self.now }
+        ensures ok { OnOk result (into.new.items ≡ matching_indexes (set_globs self.now) path.now) }
+        ensures err { IsOkUnless result out_of_memory }
+        ensures succeeds_with_capacity { length (set_globs self.now) ≤ vec_capacity into.old
+            → IsOk result }
+        ensures capacity { vec_capacity into.old ≤ vec_capacity into.new }
+        ensures cleared { OnErr result (into.new.items ≡ []) }
+        ensures kept { scratch.new ≡ scratch.old }
+        ensures visits { visits.new ≤ visits.old + max_set_visits (set_globs self.now) path.now }
+        ensures counted { visits.old ≤ visits.new }
+        ensures no_visits_if_empty { set_globs self.now ≡ [] → visits.new ≡ visits.old }
+    {
+        let Some(matcher) = self.matcher() else {
+            into.clear();
+            return Ok(());
+        };
+        matcher.find(path, scratch, &mut Caches::none(), into, visits)?;
+        Ok(())
+    }
+
+    /// Returns whether some glob that is not excluded matches the path: whether [`GlobSet::matches`] would return an
+    /// index.
+    ///
+    /// To match several sets against one path, or against bytes that are not UTF-8, create a [`Candidate`] and call
+    /// [`GlobSet::is_match_candidate`].
+    ///
+    /// Returns an error only if memory runs out. It needs no memory if no glob needs an automaton for
+    /// the path: if each of them is direct, or requires an extension that the path lacks.
+    pub fn is_match<P: AsPath>(&self, path: P) -> Result<bool, Error>
+        ensures ok { IfOk result
+            (λ yes. IsTrue yes ↔ (matching_indexes (set_globs self.now) (P.text path) ≢ [])) }
+        ensures err { IsOkUnless result out_of_memory }
+        ensures succeeds_if_empty { set_globs self.now ≡ [] → IsOk result }
+        ensures succeeds_without_automata { load (set_globs self.now) (P.text path) ≡ 0
+            → IsOk result }
+    {
+        self.is_match_candidate(&Candidate::new(path.path_text()))
+    }
+
+    /// Returns whether some glob that is not excluded matches the candidate's path, as [`GlobSet::is_match`] does.
+    ///
+    /// Returns an error only if memory runs out. It needs no memory if no glob needs an automaton for
+    /// the path: if each of them is direct, or requires an extension that the path lacks.
+    pub fn is_match_candidate(&self, path: &Candidate<'_>) -> Result<bool, Error>
+        ensures ok { IfOk result
+            (λ yes. IsTrue yes ↔ (matching_indexes (set_globs self.now) path.now ≢ [])) }
+        ensures err { IsOkUnless result out_of_memory }
+        ensures succeeds_if_empty { set_globs self.now ≡ [] → IsOk result }
+        ensures succeeds_without_automata { load (set_globs self.now) path.now ≡ 0 → IsOk result }
+    {
+        let mut visits = Visits::new();
+        self.is_match_visits(path, &mut visits)
+    }
+
+    /// Like [`GlobSet::is_match_candidate`], but also counts the visits.
+    ///
+    /// It adds at most `4 + 2 * (path bytes + 1)`, and `path bytes + 1` times `4 * glob bytes + 4` for each glob that needs an
+    /// automaton for the path (`16 * glob bytes + 4` under `whole_character`), also if memory runs out; and none if the set has
+    /// no globs. It looks up the path and its parts in four tables and two tries, and runs at most three automata, each once.
+    /// Those that are stepped take two bits of memory for each state.
+    ///
+    /// Returns an error only if memory runs out. It needs no memory if no glob needs an automaton for the path: if
+    /// each of them is direct, or requires an extension that the path lacks.
+    pub fn is_match_visits(&self, path: &Candidate<'_>, visits: &mut Visits) -> Result<bool, Error>
+        ensures ok { IfOk result
+            (λ yes. IsTrue yes ↔ (matching_indexes (set_globs self.now) path.now ≢ [])) }
+        ensures err { IsOkUnless result out_of_memory }
+        ensures succeeds_if_empty { set_globs self.now ≡ [] → IsOk result }
+        ensures succeeds_without_automata { load (set_globs self.now) path.now ≡ 0 → IsOk result }
+        ensures visits { visits.new ≤ visits.old + max_set_visits (set_globs self.now) path.now }
+        ensures counted { visits.old ≤ visits.new }
+        ensures no_visits_if_empty { set_globs self.now ≡ [] → visits.new ≡ visits.old }
+    {
+        let Some(matcher) = self.matcher() else {
+            return Ok(false);
+        };
+        Ok(matcher.is_match(
+            path,
+            &mut matcher.new_scratch(),
+            &mut Caches::none(),
+            visits,
+        )?)
+    }
+
+    /// Like [`GlobSet::is_match_visits`], but with a scratch: it does not allocate, and cannot fail.
+    ///
+    /// The scratch has to fit the set. It then fits each set that it fitted before. The bound on the visits is the same.
+    pub fn is_match_with(
+        &self,
+        path: &Candidate<'_>,
+        scratch: &mut Scratch,
+        visits: &mut Visits,
+    ) -> bool
+        requires { Fits scratch.old self.now }
+        ensures some { IsTrue result ↔ (matching_indexes (set_globs self.now) path.now ≢ []) }
+        ensures kept { scratch.new ≡ scratch.old }
+        ensures visits { visits.new ≤ visits.old + max_set_visits (set_globs self.now) path.now }
+        ensures counted { visits.old ≤ visits.new }
+        ensures no_visits_if_empty { set_globs self.now ≡ [] → visits.new ≡ visits.old }
+    {
+        let Some(matcher) = self.matcher() else {
+            return false;
+        };
+        matcher
+            .is_match(path, scratch, &mut Caches::none(), visits)
+            .unwrap()
+    }
+
+    /// Returns whether every glob matches the path and none is excluded: whether [`GlobSet::matches`] would return every
+    /// index below [`GlobSet::len`]. It is true if the set has no globs.
+    ///
+    /// Returns an error only if memory runs out. It needs no memory if no glob needs an automaton for
+    /// the path: if each of them is direct, or requires an extension that the path lacks.
+    pub fn matches_all<P: AsPath>(&self, path: P) -> Result<bool, Error>
+        ensures ok { IfOk result
+            (λ yes. IsTrue yes
+            ↔ ContainsAllBelow (matching_indexes (set_globs self.now) (P.text path))
+            (length (set_globs self.now))) }
+        ensures err { IsOkUnless result out_of_memory }
+        ensures succeeds_if_empty { set_globs self.now ≡ [] → IsOk result }
+        ensures succeeds_without_automata { load (set_globs self.now) (P.text path) ≡ 0
+            → IsOk result }
+    {
+        self.matches_all_candidate(&Candidate::new(path.path_text()))
+    }
+
+    /// Returns whether every glob matches the candidate's path and none is excluded, as [`GlobSet::matches_all`] does.
+    ///
+    /// Returns an error only if memory runs out. It needs no memory if no glob needs an automaton for
+    /// the path: if each of them is direct, or requires an extension that the path lacks.
+    pub fn matches_all_candidate(&self, path: &Candidate<'_>) -> Result<bool, Error>
+        ensures ok { IfOk result
+            (λ yes. IsTrue yes
+            ↔ ContainsAllBelow (matching_indexes (set_globs self.now) path.now)
+            (length (set_globs self.now))) }
+        ensures err { IsOkUnless result out_of_memory }
+        ensures succeeds_if_empty { set_globs self.now ≡ [] → IsOk result }
+        ensures succeeds_without_automata { load (set_globs self.now) path.now ≡ 0 → IsOk result }
+    {
+        let mut visits = Visits::new();
+        self.matches_all_visits(path, &mut visits)
+    }
+
+    /// Like [`GlobSet::matches_all_candidate`], but also counts the visits.
+    ///
+    /// It adds at most `4 + 2 * (path bytes + 1)`, and `path bytes + 1` times `4 * glob bytes + 4` for each glob that needs an
+    /// automaton for the path (`16 * glob bytes + 4` under `whole_character`), also if memory runs out; and none if the set has
+    /// no globs. It looks up the path and its parts in four tables and two tries, and runs at most three automata, each once.
+    /// If one of these has states, the call takes a bit of memory for each glob above the first 64, and two for each state of one
+    /// that is stepped.
+    ///
+    /// Returns an error only if memory runs out. It needs no memory if no glob needs an automaton for the path: if
+    /// each of them is direct, or requires an extension that the path lacks.
+    pub fn matches_all_visits(
+        &self,
+        path: &Candidate<'_>,
+        visits: &mut Visits,
+    ) -> Result<bool, Error>
+        ensures ok { IfOk result
+            (λ yes. IsTrue yes
+            ↔ ContainsAllBelow (matching_indexes (set_globs self.now) path.now)
+            (length (set_globs self.now))) }
+        ensures err { IsOkUnless result out_of_memory }
+        ensures succeeds_if_empty { set_globs self.now ≡ [] → IsOk result }
+        ensures succeeds_without_automata { load (set_globs self.now) path.now ≡ 0 → IsOk result }
+        ensures visits { visits.new ≤ visits.old + max_set_visits (set_globs self.now) path.now }
+        ensures counted { visits.old ≤ visits.new }
+        ensures no_visits_if_empty { set_globs self.now ≡ [] → visits.new ≡ visits.old }
+    {
+        let Some(matcher) = self.matcher() else {
+            return Ok(true);
+        };
+        Ok(matcher.matches_all(
+            path,
+            &mut matcher.new_scratch(),
+            &mut Caches::none(),
+            visits,
+        )?)
+    }
+
+    /// Like [`GlobSet::matches_all_visits`], but with a scratch: it does not allocate, and cannot fail.
+    ///
+    /// The scratch has to fit the set. It then fits each set that it fitted before. The bound on the visits is the same.
+    pub fn matches_all_with(
+        &self,
+        path: &Candidate<'_>,
+        scratch: &mut Scratch,
+        visits: &mut Visits,
+    ) -> bool
+        requires { Fits scratch.old self.now }
+        ensures all { IsTrue result
+            ↔ ContainsAllBelow (matching_indexes (set_globs self.now) path.now)
+            (length (set_globs self.now)) }
+        ensures kept { scratch.new ≡ scratch.old }
+        ensures visits { visits.new ≤ visits.old + max_set_visits (set_globs self.now) path.now }
+        ensures counted { visits.old ≤ visits.new }
+        ensures no_visits_if_empty { set_globs self.now ≡ [] → visits.new ≡ visits.old }
+    {
+        let Some(matcher) = self.matcher() else {
+            return true;
+        };
+        matcher
+            .matches_all(path, scratch, &mut Caches::none(), visits)
+            .unwrap()
+    }
+
+    /// Returns whether some glob that is not excluded matches some path below a folder. If this returns false, a walk can skip
+    /// the folder and everything below it.
+    ///
+    /// A path below a folder is the folder, a `/`, and any bytes, perhaps none. So `a/**` and `a/` match a path below `a`, and
+    /// `a` does not. The folder is taken as it is: below `a/` are the paths that begin with `a//`. Below the empty folder are the
+    /// paths that begin with `/`, so a walk over relative paths always opens the folder where it begins.
+    ///
+    /// For several sets, or for bytes that are not UTF-8, create a [`Candidate`] and call [`GlobSet::can_match_below_candidate`].
+    /// A walk makes a [`Searcher`](crate::Searcher) once, whose calls neither allocate nor fail.
+    ///
+    /// Returns an error only if memory runs out. It needs no memory if each glob is direct.
+    ///
+    /// ```rust
+    /// use globset::{Glob, GlobSet};
+    ///
+    /// let set = GlobSet::new(alloc, [&Glob::new(alloc, "src/*.rs")?, &Glob::new(alloc, "docs/a.md")?])?;
+    /// assert!(rt; set.can_match_below("docs")?);
+    /// assert!(rt; set.can_match_below("src/a")?);
+    /// assert!(rt; !set.can_match_below("target")?);
+    /// ```
+    pub fn can_match_below<P: AsPath>(&self, folder: P) -> Result<bool, Error>
+        ensures ok { IfOk result
+            (λ yes. IsTrue yes ↔ MatchesBelow (set_globs self.now) (P.text folder)) }
+        ensures err { IsOkUnless result out_of_memory }
+        ensures succeeds_if_empty { set_globs self.now ≡ [] → IsOk result }
+        ensures succeeds_without_automata { load_below (set_globs self.now) ≡ 0 → IsOk result }
+    {
+        self.can_match_below_candidate(&Candidate::new(folder.path_text()))
+    }
+
+    /// Returns whether some glob that is not excluded matches some path below the candidate's path, as
+    /// [`GlobSet::can_match_below`] does.
+    ///
+    /// Returns an error only if memory runs out. It needs no memory if each glob is direct.
+    pub fn can_match_below_candidate(&self, folder: &Candidate<'_>) -> Result<bool, Error>
+        ensures ok { IfOk result
+            (λ yes. IsTrue yes ↔ MatchesBelow (set_globs self.now) folder.now) }
+        ensures err { IsOkUnless result out_of_memory }
+        ensures succeeds_if_empty { set_globs self.now ≡ [] → IsOk result }
+        ensures succeeds_without_automata { load_below (set_globs self.now) ≡ 0 → IsOk result }
+    {
+        let mut visits = Visits::new();
+        self.can_match_below_visits(folder, &mut visits)
+    }
+
+    /// Like [`GlobSet::can_match_below_candidate`], but also counts the visits.
+    ///
+    /// It adds at most `4 + 2 * (folder bytes + 2)`, and `folder bytes + 2` times `4 * glob bytes + 4` for each glob that is not
+    /// direct (`16 * glob bytes + 4` under `whole_character`), also if memory runs out; and none if the set has no globs. The
+    /// automata of all extensions may be run, each once. Those that are stepped take two bits of memory for each state.
+    ///
+    /// Returns an error only if memory runs out. It needs no memory if each glob is direct.
+    pub fn can_match_below_visits(
+        &self,
+        folder: &Candidate<'_>,
+        visits: &mut Visits,
+    ) -> Result<bool, Error>
+        ensures ok { IfOk result
+            (λ yes. IsTrue yes ↔ MatchesBelow (set_globs self.now) folder.now) }
+        ensures err { IsOkUnless result out_of_memory }
+        ensures succeeds_if_empty { set_globs self.now ≡ [] → IsOk result }
+        ensures succeeds_without_automata { load_below (set_globs self.now) ≡ 0 → IsOk result }
+        ensures visits { visits.new
+            ≤ visits.old + max_set_visits_below (set_globs self.now) folder.now }
+        ensures counted { visits.old ≤ visits.new }
+        ensures no_visits_if_empty { set_globs self.now ≡ [] → visits.new ≡ visits.old }
+    {
+        let Some(matcher) = self.matcher() else {
+            return Ok(false);
+        };
+        Ok(matcher.can_match_below(
+            folder.path(),
+            &mut matcher.new_scratch(),
+            &mut Caches::none(),
+            visits,
+        )?)
+    }
+
+    /// Like [`GlobSet::can_match_below_visits`], but with a scratch: it does not allocate, and cannot fail.
+    ///
+    /// The scratch has to fit the set. It then fits each set that it fitted before. The bound on the visits is the same.
+    ///
+    /// ```rust
+    /// use globset::{Candidate, Glob, GlobSet, Scratch, Visits};
+    ///
+    /// let set = GlobSet::new(alloc, [&Glob::new(alloc, "src/**")?])?;
+    /// let mut scratch = Scratch::new(alloc, &set)?;
+    /// let mut visits = Visits::new();
+    ///
+    /// // A walk has come to the folder `target`. It opens it only if some path below it can match.
+    /// let folder = Candidate::new("target");
+    /// assert!(rt; !set.can_match_below_with(&folder, &mut scratch, &mut visits));
+    /// ```
+    pub fn can_match_below_with(
+        &self,
+        folder: &Candidate<'_>,
+        scratch: &mut Scratch,
+        visits: &mut Visits,
+    ) -> bool
+        requires { Fits scratch.old self.now }
+        ensures some { IsTrue result ↔ MatchesBelow (set_globs self.now) folder.now }
+        ensures kept { scratch.new ≡ scratch.old }
+        ensures visits { visits.new
+            ≤ visits.old + max_set_visits_below (set_globs self.now) folder.now }
+        ensures counted { visits.old ≤ visits.new }
+        ensures no_visits_if_empty { set_globs self.now ≡ [] → visits.new ≡ visits.old }
+    {
+        let Some(matcher) = self.matcher() else {
+            return false;
+        };
+        matcher
+            .can_match_below(folder.path(), scratch, &mut Caches::none(), visits)
+            .unwrap()
+    }
+}
+
+impl NeedsScratch for GlobSet {
+    ghost states = { λ s. set_states s };
+
+    ghost indexes = { λ s. length (set_globs s) };
+
+    fn states_needed(&self) -> Option<usize> {
+        match self.matcher() {
+            Some(matcher) => Some(matcher.max_states()),
+            None => Some(0),
+        }
+    }
+
+    fn indexes_needed(&self) -> usize {
+        self.len()
+    }
+
+    fn keep_caches(&self) {
+        if let Some(matcher) = self.matcher() {
+            matcher.keep_caches();
+        }
+    }
+}
