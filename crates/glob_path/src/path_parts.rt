@@ -9,11 +9,21 @@ use std::marker::Model;
 
 /// A path, and those parts of it that were found: a call that needs a part in several places finds it once. Contracts see the
 /// path's bytes.
-#[derive(Drop)]
 pub struct PathParts<'p> {
     path: &'p [u8],
     component: Option<&'p [u8]>,
     extension: Option<&'p [u8]>,
+}
+
+impl<'p> Drop for PathParts<'p> {
+    // One call wherever a value is dropped, which keeps proofs short.
+    fn drop(self) {
+        let PathParts {
+            path: _,
+            component: _,
+            extension: _,
+        } = self;
+    }
 }
 
 impl<'p> Model for PathParts<'p> {
