@@ -263,7 +263,7 @@ impl NeedsScratch for GlobMatcher {
     }
 }
 
-/// Calls the method [`GlobMatcher::clone`], for code that is generic over `Clone`.
+/// The same as the method [`GlobMatcher::clone`], for code that is generic over `Clone`.
 impl Clone for GlobMatcher {
     ghost is_clone = { λ m n. n ≡ m };
 
