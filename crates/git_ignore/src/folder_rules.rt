@@ -14,20 +14,11 @@ use globset::Error;
 use std::alloc::Global;
 
 /// The rules of an ignore file, and the folder of the file.
+#[derive(Drop)]
 pub struct FolderRules {
     /// The path of the folder: empty for the top folder, and otherwise with `/` at its end.
     folder: Vec<u8>,
     rules: Rules,
-}
-
-impl Drop for FolderRules {
-    // One call wherever a value is dropped, which keeps proofs short.
-    fn drop(self) {
-        let FolderRules {
-            folder: _,
-            rules: _,
-        } = self;
-    }
 }
 
 impl FolderRules {

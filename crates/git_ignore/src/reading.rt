@@ -18,22 +18,12 @@ use std::alloc::Global;
 const BYTE_ORDER_MARK: &[u8] = b"\xef\xbb\xbf";
 
 /// The rules that were read so far: their globs, and an entry for each.
+#[derive(Drop)]
 pub struct RulesBuilder {
     pub globs: Vec<Glob>,
     pub entries: Vec<RuleEntry>,
     /// The numbers of lines that match nothing, and are neither blank nor a comment.
     pub unread: Vec<usize>,
-}
-
-impl Drop for RulesBuilder {
-    // One call wherever a value is dropped, which keeps proofs short.
-    fn drop(self) {
-        let RulesBuilder {
-            globs: _,
-            entries: _,
-            unread: _,
-        } = self;
-    }
 }
 
 impl RulesBuilder {

@@ -23,20 +23,11 @@ use std::sync::Arc;
 /// To decide about many paths, make a [`crate::RulesSearcher`] of them.
 ///
 /// Contracts see the bytes of the file, and the set of the globs of its rules.
+#[derive(Drop)]
 pub struct Rules {
     /// Searchers share it.
     stored: Arc<StoredRules>,
     unread: Vec<usize>,
-}
-
-impl Drop for Rules {
-    // One call wherever a value is dropped, which keeps proofs short.
-    fn drop(self) {
-        let Rules {
-            stored: _,
-            unread: _,
-        } = self;
-    }
 }
 
 impl Model for Rules {

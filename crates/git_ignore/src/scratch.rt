@@ -14,20 +14,11 @@ use std::marker::Model;
 ///
 /// With a scratch that fits the rules, [`Rules::decide`] cannot fail. What earlier calls left in it has no effect. It serves all
 /// rules that it fits ([`IgnoreScratch::fits`]), and [`IgnoreScratch::fit`] makes it fit more rules.
+#[derive(Drop)]
 pub struct IgnoreScratch {
     pub(crate) scratch: Scratch,
     /// The indexes of the rules whose globs match a path.
     pub(crate) matching: Vec<usize>,
-}
-
-impl Drop for IgnoreScratch {
-    // One call wherever a value is dropped, which keeps proofs short.
-    fn drop(self) {
-        let IgnoreScratch {
-            scratch: _,
-            matching: _,
-        } = self;
-    }
 }
 
 impl Model for IgnoreScratch {

@@ -36,19 +36,10 @@ use std::sync::Arc;
 /// searcher.decide_folders(b"out/x", 0, &mut decisions);
 /// assert_eq!(rt; decisions[3], Decision::Ignored);
 /// ```
+#[derive(Drop)]
 pub struct RulesSearcher {
     stored: Arc<StoredRules>,
     searcher: Searcher,
-}
-
-impl Drop for RulesSearcher {
-    // One call wherever a value is dropped, which keeps proofs short.
-    fn drop(self) {
-        let RulesSearcher {
-            stored: _,
-            searcher: _,
-        } = self;
-    }
 }
 
 impl Model for RulesSearcher {

@@ -34,6 +34,7 @@ pub struct FolderLevel {
 /// folders, down to the first that is ignored, so the time grows with the square of their number.
 ///
 /// All files share one [`IgnoreScratch`]. The rules of each keep rows between calls, as a [`GlobSet`] does.
+#[derive(Drop)]
 pub struct IgnoreStack {
     alloc: Global,
     /// The path of the folder: empty for the top folder, and otherwise with `/` at its end.
@@ -45,20 +46,6 @@ pub struct IgnoreStack {
     /// The folders above, the top one first.
     levels: Vec<FolderLevel>,
     scratch: IgnoreScratch,
-}
-
-impl Drop for IgnoreStack {
-    // One call wherever a value is dropped, which keeps proofs short.
-    fn drop(self) {
-        let IgnoreStack {
-            alloc: _,
-            folder: _,
-            is_ignored: _,
-            files: _,
-            levels: _,
-            scratch: _,
-        } = self;
-    }
 }
 
 impl Model for IgnoreStack {

@@ -14,23 +14,13 @@ use std::alloc::Global;
 use std::marker::Model;
 
 /// The rules of an ignore file, and the set of their globs. A searcher of the rules has it, too, and memory of its own.
+#[derive(Drop)]
 pub struct StoredRules {
     /// The globs of the rules, without those that match nothing.
     set: GlobSet,
     /// For each glob what its rule says.
     entries: Vec<RuleEntry>,
     file: Vec<u8>,
-}
-
-impl Drop for StoredRules {
-    // One call wherever a value is dropped, which keeps proofs short.
-    fn drop(self) {
-        let StoredRules {
-            set: _,
-            entries: _,
-            file: _,
-        } = self;
-    }
 }
 
 impl Model for StoredRules {
