@@ -1,0 +1,243 @@
+-- Rows that are added, and where they lead.
+use Rattle.std.proofs.Common.{◌≡◌, ℕ, zero, suc, ◌+◌, ◌<◌, ◌≤◌, ◌⊎◌, inl, inr, true≢false, List, [], ◌∷◌, ◌++◌, length, IsTrue, refl, ap, sym, subst, ◌∙◌, arith, length-append}
+use Rattle.std.specs.Prelude.{◌↔◌, None, Some, slice_get}
+use Rattle.std.proofs.lemmas.Bool.{cases_lt}
+use Rattle.std.proofs.Math.Logic.{⊎_elim}
+use Rattle.std.proofs.lemmas.List.{append_assoc}
+use Rattle.std.proofs.lemmas.Option.{slice_get_within}
+use Rattle.bit_sets.specs.Texts.{AllBytes}
+use Rattle.byte_nfa.specs.Runs.{size}
+use Rattle.byte_nfa.specs.Steps.{NfaValue, IsReached}
+use Rattle.glob_relations.specs.declared.domain.Domain.{Domain}
+use Rattle.glob_relations.specs.declared.rows.Row.{Row}
+use Rattle.glob_relations.specs.declared.rows.Rows.{Rows}
+use Rattle.glob_relations.specs.declared.rows.Origin.{Origin}
+use Rattle.glob_relations.specs.inner.Places.{place_after, first_place, ends_in}
+use Rattle.glob_relations.specs.inner.Rows.{AcceptsIn, IsWantedBy, WantsRow, WantsFrom, WantsSome, HasRow, AreStates, IsFirstRow, GoesTo, CameFrom, AreRows, IsLedTo, AreDifferent, HasMoreRows, KeepsRows, AddsRow, IsFollowedBy, IsFollowed, AreDone}
+use Rattle.glob_relations.proofs.lemmas.Passes.{wanted_iff}
+
+module _ {X : Type 0} where
+  some_is : (x y : X) → Some x ≡ Some y → x ≡ y
+  some_is x y e = cc
+
+  pub get_left : (xs ys : List X) (i : ℕ) (x : X) → slice_get xs i ≡ Some x → slice_get (xs ++ ys) i ≡ Some x
+  get_left [] ys i x e = absurd cc
+  get_left (z ∷ zs) ys zero x e = e
+  get_left (z ∷ zs) ys (suc i) x e = get_left zs ys i x e
+
+  pub get_last : (xs : List X) (x : X) → slice_get (xs ++ x ∷ []) (length xs) ≡ Some x
+  get_last [] x = refl
+  get_last (z ∷ zs) x = get_last zs x
+
+  pub get_cases : (xs : List X) (y : X) (i : ℕ) (x : X) → slice_get (xs ++ y ∷ []) i ≡ Some x → (slice_get xs i ≡ Some x) ⊎ ((i ≡ length xs) × (x ≡ y))
+  get_cases [] y zero x e = inr (refl, some_is x y (sym e))
+  get_cases [] y (suc i) x e = absurd cc
+  get_cases (z ∷ zs) y zero x e = inl e
+  get_cases (z ∷ zs) y (suc i) x e = ⊎_elim {C = (slice_get zs i ≡ Some x) ⊎ ((suc i ≡ suc (length zs)) × (x ≡ y))} (λ h. inl h) (λ (is, same). inr (ap suc is, same)) (get_cases zs y i x e)
+
+  pub get_some : (xs : List X) (i : ℕ) → i < length xs → (x : X) × (slice_get xs i ≡ Some x)
+  get_some [] i lt = absurd (omega arith)
+  get_some (z ∷ zs) zero lt = (z, refl)
+  get_some (z ∷ zs) (suc i) lt = get_some zs i (omega arith)
+
+  pub get_same : (xs : List X) (i : ℕ) (x y : X) → slice_get xs i ≡ Some x → slice_get xs i ≡ Some y → x ≡ y
+  get_same xs i x y e f = some_is x y (sym e ∙ f)
+
+-- a row with the same place and the same states
+pub wants_same : (m : NfaValue) (n : ℕ) (r row : Row) (y : List ℕ) → r.place ≡ row.place → r.states.items ≡ row.states.items → WantsRow m n row y → WantsRow m n r y
+wants_same m n r row y place states (ends, wanted) =
+    (subst (λ p. IsTrue (ends_in (Some p) y)) (sym place) ends, subst (λ (l : List ℕ). IsWantedBy n (AcceptsIn m l y)) (sym states) wanted)
+
+-- what is wanted after a byte is wanted from the row that it leads to
+pub wants_goes : (m : NfaValue) (n : ℕ) (row : Row) (b : ℕ) (next : Row) (y : List ℕ) → GoesTo m row b next → WantsRow m n row (b ∷ y) ↔ WantsRow m n next y
+wants_goes m n row b next y (place, steps) =
+    let wanted = wanted_iff n (AcceptsIn m row.states.items (b ∷ y)) (AcceptsIn m next.states.items y) (steps y) in (
+      λ (ends, w). (subst (λ o. IsTrue (ends_in o y)) place ends, wanted.0 w),
+      λ (ends, w). (subst (λ o. IsTrue (ends_in o y)) (sym place) ends, wanted.1 w),
+    )
+
+-- nothing is wanted after a byte by which no path of the domain goes on
+pub wants_past : (m : NfaValue) (n : ℕ) (row : Row) (b : ℕ) (y : List ℕ) → place_after row.place b ≡ None → WantsRow m n row (b ∷ y) → ⊥
+wants_past m n row b y none (ends, w) = true≢false (sym (subst (λ o. IsTrue (ends_in o y)) none ends))
+
+-- what is wanted from the row in which paths begin is wanted
+pub wants_begins : (m : NfaValue) (n : ℕ) (domain : Domain) (row : Row) (y : List ℕ) → IsFirstRow m domain row → WantsRow m n row y ↔ WantsFrom m n domain y
+wants_begins m n domain row y (place, accepts) =
+    let wanted = wanted_iff n (AcceptsIn m row.states.items y) (IsReached m y) (accepts y) in (
+      λ (ends, w). (subst (λ p. IsTrue (ends_in (Some p) y)) place ends, wanted.0 w),
+      λ (ends, w). (subst (λ p. IsTrue (ends_in (Some p) y)) (sym place) ends, wanted.1 w),
+    )
+
+module _ (old new : Rows) (row : Row) (origin : Origin) where
+  pub adds_kept : AddsRow old new row origin → KeepsRows old new
+  adds_kept (inl (keys, origins, there)) i r at = subst (λ (ks : List Row). slice_get ks i ≡ Some r) (sym keys) at
+  adds_kept (inr (keys, origins)) i r at = subst (λ (ks : List Row). slice_get ks i ≡ Some r) (sym keys) (get_left old.seen.keys (row ∷ []) i r at)
+
+  -- what is wanted from the row is wanted from some row
+  pub adds_wanted : (m : NfaValue) (n : ℕ) (y : List ℕ) → AddsRow old new row origin → WantsRow m n row y → WantsSome m n new y
+  adds_wanted m n y (inl (keys, origins, there)) wants =
+      let (i, r, at, place, states) = there in
+      (i, r, subst (λ (ks : List Row). slice_get ks i ≡ Some r) (sym keys) at, wants_same m n r row y place states wants)
+  adds_wanted m n y (inr (keys, origins)) wants =
+      (length old.seen.keys, row, subst (λ (ks : List Row). slice_get ks (length old.seen.keys) ≡ Some row) (sym keys) (get_last old.seen.keys row), wants)
+
+  module _ (m : NfaValue) (domain : Domain) where
+    came_kept : (i : ℕ) (r : Row) (o : Origin) → KeepsRows old new → CameFrom m old i r o → CameFrom m new i r o
+    came_kept i r o keeps (p, low, byte, has, goes) = (p, low, byte, keeps o.row p has, goes)
+
+    pub adds_sound : AddsRow old new row origin → AreStates (size m) row.states.items → CameFrom m old (length old.seen.keys) row origin → AreRows m domain old → AreRows m domain new
+    adds_sound (inl (keys, origins, there)) small from is = record {
+      some = subst (λ (ks : List Row). 0 < length ks) (sym keys) is.some;
+      len = ap length origins ∙ is.len ∙ sym (ap length keys);
+      below = λ i r at. is.below i r (before i r at);
+      begins = λ r at. is.begins r (before 0 r at);
+      came = λ i r o pos at came. came_kept i r o keeps (is.came i r o pos (before i r at) (subst (λ (os : List Origin). slice_get os i ≡ Some o) origins came));
+    }
+      where
+        keeps : KeepsRows old new
+        keeps = adds_kept (inl (keys, origins, there))
+
+        before : (i : ℕ) (r : Row) → HasRow new i r → HasRow old i r
+        before i r at = subst (λ (ks : List Row). slice_get ks i ≡ Some r) keys at
+    adds_sound (inr (keys, origins)) small from is = record {
+      some = omega (arith, more);
+      len = omega (arith, more, more_origins, is.len);
+      below = λ i r at. ⊎_elim {C = AreStates (size m) r.states.items} (λ h. is.below i r h) (λ (e, same). subst (λ (q : Row). AreStates (size m) q.states.items) (sym same) small) (before i r at);
+      begins = λ r at. ⊎_elim {C = IsFirstRow m domain r} (λ h. is.begins r h) (λ (e, same). let some = is.some in absurd (omega arith)) (before 0 r at);
+      came = λ i r o pos at came. ⊎_elim {C = CameFrom m new i r o}
+          (λ h. ⊎_elim {C = CameFrom m new i r o}
+          (λ g. came_kept i r o keeps (is.came i r o pos h g))
+          (λ (e, same). let lt = slice_get_within old.seen.keys i r h in let len = is.len in absurd (omega arith))
+          (came_before i o came))
+          (λ (e, same). ⊎_elim {C = CameFrom m new i r o}
+          (λ g. let lt = slice_get_within old.origins.items i o g in let len = is.len in absurd (omega arith))
+          (λ (e', same'). subst (λ (j : ℕ). CameFrom m new j r o) (sym e) (subst (λ (q : Row). CameFrom m new (length old.seen.keys) q o) (sym same)
+          (subst (λ (q : Origin). CameFrom m new (length old.seen.keys) row q) (sym same') (came_kept (length old.seen.keys) row origin keeps from))))
+          (came_before i o came))
+          (before i r at);
+    }
+      where
+        keeps : KeepsRows old new
+        keeps = adds_kept (inr (keys, origins))
+
+        more : length new.seen.keys ≡ length old.seen.keys + 1
+        more = ap length keys ∙ length-append old.seen.keys (row ∷ [])
+
+        more_origins : length new.origins.items ≡ length old.origins.items + 1
+        more_origins = ap length origins ∙ length-append old.origins.items (origin ∷ [])
+
+        before : (i : ℕ) (r : Row) → HasRow new i r → HasRow old i r ⊎ ((i ≡ length old.seen.keys) × (r ≡ row))
+        before i r at = get_cases old.seen.keys row i r (subst (λ (ks : List Row). slice_get ks i ≡ Some r) keys at)
+
+        came_before : (i : ℕ) (o : Origin) → slice_get new.origins.items i ≡ Some o → (slice_get old.origins.items i ≡ Some o) ⊎ ((i ≡ length old.origins.items) × (o ≡ origin))
+        came_before i o at = get_cases old.origins.items origin i o (subst (λ (os : List Origin). slice_get os i ≡ Some o) origins at)
+
+    -- the first row
+    pub first_sound : AddsRow old new row origin → old.seen.keys ≡ [] → old.origins.items ≡ [] → AreStates (size m) row.states.items → IsFirstRow m domain row → AreRows m domain new
+    first_sound (inl (keys, origins, there)) none nothing small begins =
+        let (i, r, at, place, states) = there in
+        absurd (no_row i r (subst (λ (ks : List Row). slice_get ks i ≡ Some r) none at))
+      where
+        no_row : (i : ℕ) (r : Row) → slice_get [] i ≡ Some r → ⊥
+        no_row i r e = cc
+    first_sound (inr (keys, origins)) none nothing small begins = record {
+      some = rw one (omega arith);
+      len = rw (one, one_origin) refl;
+      below = λ i r at. subst (λ (q : Row). AreStates (size m) q.states.items) (sym (is_row i r at)) small;
+      begins = λ r at. subst (λ (q : Row). IsFirstRow m domain q) (sym (is_row 0 r at)) begins;
+      came = λ i r o pos at came. let lt = slice_get_within (row ∷ []) i r (subst (λ (ks : List Row). slice_get ks i ≡ Some r) one at) in absurd (omega arith);
+    }
+      where
+        one : new.seen.keys ≡ row ∷ []
+        one = keys ∙ ap (λ (ks : List Row). ks ++ row ∷ []) none
+
+        one_origin : new.origins.items ≡ origin ∷ []
+        one_origin = origins ∙ ap (λ (os : List Origin). os ++ origin ∷ []) nothing
+
+        is_row : (i : ℕ) (r : Row) → HasRow new i r → r ≡ row
+        is_row i r at = ⊎_elim {C = r ≡ row} (λ h. absurd (no_row i r h)) (λ (e, same). same) (get_cases [] row i r (subst (λ (ks : List Row). slice_get ks i ≡ Some r) one at))
+          where
+            no_row : (i : ℕ) (r : Row) → slice_get [] i ≡ Some r → ⊥
+            no_row i r e = cc
+
+-- a row of a number that was there
+pub row_back : (old new : Rows) → KeepsRows old new → (i : ℕ) (r : Row) → i < length old.seen.keys → HasRow new i r → HasRow old i r
+row_back old new keeps i r lt at =
+    let (q, was) = get_some old.seen.keys i lt in
+    subst (λ (x : Row). slice_get old.seen.keys i ≡ Some x) (get_same new.seen.keys i q r (keeps i q was) at) was
+
+module _ (m : NfaValue) (n : ℕ) where
+  pub wants_kept : (old new : Rows) (y : List ℕ) → KeepsRows old new → WantsSome m n old y → WantsSome m n new y
+  wants_kept old new y keeps (j, r, has, wants) = (j, r, keeps j r has, wants)
+
+  pub followed_kept : (old new : Rows) (i b : ℕ) → KeepsRows old new → i < length old.seen.keys → IsFollowedBy m n old i b → IsFollowedBy m n new i b
+  followed_kept old new i b keeps lt is row at y wants = wants_kept old new y keeps (is row (row_back old new keeps i row lt at) y wants)
+
+  pub done_kept : (old new : Rows) (next : ℕ) → KeepsRows old new → next ≤ length old.seen.keys → AreDone m n old next → AreDone m n new next
+  done_kept old new next keeps le done i lt = (
+    λ b byte. followed_kept old new i b keeps (omega arith) ((done i lt).0 b byte),
+    λ row at. (done i lt).1 row (row_back old new keeps i row (omega arith) at),
+  )
+
+  -- one row more is done
+  pub done_more : (old new : Rows) (next : ℕ) (row : Row) → KeepsRows old new → next < length old.seen.keys → AreDone m n old next → IsFollowed m n new next → HasRow old next row → (WantsRow m n row [] → ⊥)
+      → AreDone m n new (next + 1)
+  done_more old new next row keeps lt done followed has none i below = ⊎_elim {C = IsFollowed m n new i × ((r : Row) → HasRow new i r → WantsRow m n r [] → ⊥)}
+      (λ low. done_kept old new next keeps (omega arith) done i low)
+      (λ high. let is : next ≡ i = omega arith in subst (λ (x : ℕ). IsFollowed m n new x × ((r : Row) → HasRow new x r → WantsRow m n r [] → ⊥)) is
+      (followed, λ r at wants. none (subst (λ (q : Row). WantsRow m n q []) (get_same old.seen.keys next r row (row_back old new keeps next r lt at) has) wants)))
+      (cases_lt i next)
+
+  -- nothing is wanted from rows that are all done
+  pub none_wanted : (rows : Rows) (next : ℕ) → AreDone m n rows next → length rows.seen.keys ≤ next → (y : List ℕ) → AllBytes y → (i : ℕ) (row : Row) → HasRow rows i row → WantsRow m n row y → ⊥
+  none_wanted rows next done le [] bytes i row at wants =
+      let lt = slice_get_within rows.seen.keys i row at in (done i (omega arith)).1 row at wants
+  none_wanted rows next done le (b ∷ y) (byte, bytes) i row at wants =
+      let lt = slice_get_within rows.seen.keys i row at in
+      let (j, r, has, w) = (done i (omega arith)).0 b byte row at y wants in
+      none_wanted rows next done le y bytes j r has w
+
+  pub nothing_wanted : (domain : Domain) (rows : Rows) (next : ℕ) → AreRows m domain rows → AreDone m n rows next → length rows.seen.keys ≤ next → (y : List ℕ) → AllBytes y → WantsFrom m n domain y → ⊥
+  nothing_wanted domain rows next is done le y bytes wants =
+      let (row, at) = get_some rows.seen.keys 0 is.some in
+      none_wanted rows next done le y bytes 0 row at ((wants_begins m n domain row y (is.begins row at)).1 wants)
+
+-- where rows came from
+pub origin_low : (m : NfaValue) (domain : Domain) (rows : Rows) → AreRows m domain rows → (i : ℕ) (origin : Origin) → 0 < i → slice_get rows.origins.items i ≡ Some origin → (origin.row < i) × (origin.byte < 256)
+origin_low m domain rows is i origin pos from =
+    let lt = slice_get_within rows.origins.items i origin from in
+    let len = is.len in
+    let (row, at) = get_some rows.seen.keys i (omega arith) in
+    let (p, low, byte, has, wants) = is.came i row origin pos at from in
+    (low, byte)
+
+all_push : (y : List ℕ) (b : ℕ) → AllBytes y → b < 256 → AllBytes (y ++ b ∷ [])
+all_push [] b all lt = (lt, tt)
+all_push (x ∷ xs) b (first, rest) lt = (first, all_push xs b rest lt)
+
+-- some path leads to each row
+led_to : (m : NfaValue) (domain : Domain) (rows : Rows) → AreRows m domain rows → (bound i : ℕ) → i < bound → (row : Row) → HasRow rows i row → IsLedTo m domain row
+led_to m domain rows is zero i lt row at = absurd (omega arith)
+led_to m domain rows is (suc bound) zero lt row at =
+    let (place, accepts) = is.begins row at in
+    ([], tt, λ z. ap (λ p. ends_in (Some p) z) place, accepts)
+led_to m domain rows is (suc bound) (suc i) lt row at =
+    let within = slice_get_within rows.seen.keys (suc i) row at in
+    let len = is.len in
+    let (o, from) = get_some rows.origins.items (suc i) (omega arith) in
+    let (p, low, byte, has, goes) = is.came (suc i) row o (omega arith) at from in
+    let (y, bytes, ends, accepts) = led_to m domain rows is bound o.row (omega arith) p has in (
+      y ++ o.byte ∷ [],
+      all_push y o.byte bytes byte,
+      λ z. sym (ap (λ q. ends_in q z) goes.0) ∙ ends (o.byte ∷ z) ∙ sym (ap (ends_in (Some (first_place domain))) (append_assoc y (o.byte ∷ []) z)),
+      λ z k. subst (λ (l : List ℕ). AcceptsIn m row.states.items z k ↔ IsReached m l k) (sym (append_assoc y (o.byte ∷ []) z))
+          (λ h. (accepts (o.byte ∷ z) k).0 ((goes.1 z k).1 h), λ h. (goes.1 z k).0 ((accepts (o.byte ∷ z) k).1 h)),
+    )
+
+pub more_rows : (m : NfaValue) (domain : Domain) (rows : Rows) (limit : ℕ) → AreRows m domain rows → limit < length rows.seen.keys → AreDifferent rows.seen.keys → HasMoreRows m domain limit
+more_rows m domain rows limit is more different = (
+  rows.seen.keys,
+  more,
+  different,
+  λ i row at. (is.below i row at, led_to m domain rows is (i + 1) i (omega arith) row at),
+)

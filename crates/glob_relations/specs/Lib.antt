@@ -1,0 +1,3 @@
+pub mod Domains
+pub mod Answers
+pub mod inner

@@ -1,0 +1,5 @@
+pub mod Places
+pub mod Rows
+pub mod Memory
+pub mod Automata
+pub mod Told

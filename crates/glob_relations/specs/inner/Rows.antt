@@ -1,0 +1,118 @@
+-- Rows: a place, and a set of states as a list.
+use Rattle.std.specs.Prelude.{◌≡◌, ℕ, ◌+◌, ◌<◌, ◌⊎◌, ◌↔◌, List, [], ◌∷◌, ◌++◌, length, slice_get, slice_index, Some, IsTrue}
+use Rattle.bit_sets.specs.Bytes.{has_byte}
+use Rattle.bit_sets.specs.declared.byte_set.ByteSet.{ByteSet}
+use Rattle.bit_sets.specs.Numbers.{has_number, AreBelow}
+use Rattle.bit_sets.specs.Texts.{AllBytes}
+use Rattle.byte_nfa.specs.Steps.{Accepts, NfaValue, IsReached}
+use Rattle.byte_nfa.specs.Runs.{size}
+use Rattle.byte_nfa.specs.Equivalent.{AreEquivalent}
+use Rattle.glob_relations.specs.declared.domain.Domain.{Domain}
+use Rattle.glob_relations.specs.declared.rows.Row.{Row}
+use Rattle.glob_relations.specs.declared.rows.Rows.{Rows}
+use Rattle.glob_relations.specs.declared.rows.Origin.{Origin}
+use Rattle.glob_relations.specs.declared.search.Answer.{Answer}
+use Rattle.glob_relations.specs.declared.search.Answer.TheVariants.{Found, Nothing, Limit}
+use Rattle.glob_relations.specs.inner.Places.{kind_of, place_after, first_place, ends_in}
+
+-- each of the first n indexes is reached, and the next is not
+abbrev pub IsWantedBy : ℕ → (ℕ → Type 0) → Type 0
+IsWantedBy n P = ((k : ℕ) → k < n → P k) × (P n → ⊥)
+
+-- from some state of a list the text leads to an end of the index k
+abbrev pub AcceptsIn : NfaValue → List ℕ → List ℕ → ℕ → Type 0
+AcceptsIn m list y k = (t : ℕ) × IsTrue (has_number t list) × Accepts m.states k t y
+
+-- a list of states, each once, from the highest to the lowest
+abbrev pub AreStates : ℕ → List ℕ → Type 0
+AreStates n list = AreBelow n list × ((i : ℕ) → i + 1 < length list → slice_index list (i + 1) < slice_index list i)
+
+-- from the row the text leads to what is wanted
+abbrev pub WantsRow : NfaValue → ℕ → Row → List ℕ → Type 0
+WantsRow m n row y = IsTrue (ends_in (Some row.place) y) × IsWantedBy n (AcceptsIn m row.states.items y)
+
+-- from the start the text leads to what is wanted
+abbrev pub WantsFrom : NfaValue → ℕ → Domain → List ℕ → Type 0
+WantsFrom m n domain y = IsTrue (ends_in (Some (first_place domain)) y) × IsWantedBy n (IsReached m y)
+
+-- the row has the number i
+abbrev pub HasRow : Rows → ℕ → Row → Type 0
+HasRow rows i row = slice_get rows.seen.keys i ≡ Some row
+
+-- from some row the text leads to what is wanted
+abbrev pub WantsSome : NfaValue → ℕ → Rows → List ℕ → Type 0
+WantsSome m n rows y = (j : ℕ) × (r : Row) × HasRow rows j r × WantsRow m n r y
+
+-- paths begin in the row
+abbrev pub IsFirstRow : NfaValue → Domain → Row → Type 0
+IsFirstRow m domain row = (row.place ≡ first_place domain) × ((y : List ℕ) (k : ℕ) → AcceptsIn m row.states.items y k ↔ IsReached m y k)
+
+-- the byte leads from the row to the next
+abbrev pub GoesTo : NfaValue → Row → ℕ → Row → Type 0
+GoesTo m row b next = (place_after row.place b ≡ Some next.place) × ((y : List ℕ) (k : ℕ) → AcceptsIn m row.states.items (b ∷ y) k ↔ AcceptsIn m next.states.items y k)
+
+-- the row came from a lower one by a byte
+abbrev pub CameFrom : NfaValue → Rows → ℕ → Row → Origin → Type 0
+CameFrom m rows i row origin = (p : Row) × (origin.row < i) × (origin.byte < 256) × HasRow rows origin.row p × GoesTo m p origin.byte row
+
+-- what is known of the rows so far
+pub record AreRows (m : NfaValue) (domain : Domain) (rows : Rows) : Type 0 where
+  pub some : 0 < length rows.seen.keys
+  pub len : length rows.origins.items ≡ length rows.seen.keys
+  pub below : (i : ℕ) (row : Row) → HasRow rows i row → AreStates (size m) row.states.items
+  pub begins : (row : Row) → HasRow rows 0 row → IsFirstRow m domain row
+  pub came : (i : ℕ) (row : Row) (origin : Origin) → 0 < i → HasRow rows i row → slice_get rows.origins.items i ≡ Some origin → CameFrom m rows i row origin
+
+-- some path leads to the row: what follows it decides from the row as it does after the path
+abbrev pub IsLedTo : NfaValue → Domain → Row → Type 0
+IsLedTo m domain row = (y : List ℕ) × AllBytes y × ((z : List ℕ) → ends_in (Some row.place) z ≡ ends_in (Some (first_place domain)) (y ++ z))
+    × ((z : List ℕ) (k : ℕ) → AcceptsIn m row.states.items z k ↔ IsReached m (y ++ z) k)
+
+-- no two of the rows have the same place and the same states
+abbrev pub AreDifferent : List Row → Type 0
+AreDifferent rows = (i j : ℕ) (r s : Row) → i < j → slice_get rows i ≡ Some r → slice_get rows j ≡ Some s → r.place ≡ s.place → r.states.items ≡ s.states.items → ⊥
+
+-- paths lead to more different rows than the limit
+abbrev pub HasMoreRows : NfaValue → Domain → ℕ → Type 0
+HasMoreRows m domain limit = (rows : List Row) × (limit < length rows) × AreDifferent rows
+    × ((i : ℕ) (row : Row) → slice_get rows i ≡ Some row → AreStates (size m) row.states.items × IsLedTo m domain row)
+
+-- each row is still there
+abbrev pub KeepsRows : Rows → Rows → Type 0
+KeepsRows old new = (i : ℕ) (row : Row) → HasRow old i row → HasRow new i row
+
+-- the row was there, or was added
+abbrev pub AddsRow : Rows → Rows → Row → Origin → Type 0
+AddsRow old new row origin =
+    ((new.seen.keys ≡ old.seen.keys) × (new.origins.items ≡ old.origins.items) × ((i : ℕ) × (r : Row) × HasRow old i r × (r.place ≡ row.place) × (r.states.items ≡ row.states.items)))
+    ⊎ ((new.seen.keys ≡ old.seen.keys ++ row ∷ []) × (new.origins.items ≡ old.origins.items ++ origin ∷ []))
+
+-- what is wanted from the row of the number i after the byte is wanted from some row
+abbrev pub IsFollowedBy : NfaValue → ℕ → Rows → ℕ → ℕ → Type 0
+IsFollowedBy m n rows i b = (row : Row) → HasRow rows i row → (y : List ℕ) → WantsRow m n row (b ∷ y) → WantsSome m n rows y
+
+-- the same of each byte
+abbrev pub IsFollowed : NfaValue → ℕ → Rows → ℕ → Type 0
+IsFollowed m n rows i = (b : ℕ) → b < 256 → IsFollowedBy m n rows i b
+
+-- the rows below a number are not wanted themselves, and followed
+abbrev pub AreDone : NfaValue → ℕ → Rows → ℕ → Type 0
+AreDone m n rows next = (i : ℕ) → i < next → IsFollowed m n rows i × ((row : Row) → HasRow rows i row → WantsRow m n row [] → ⊥)
+
+-- bytes that states read alike, and paths of domains
+abbrev pub AreAlike : NfaValue → ℕ → ℕ → Type 0
+AreAlike m b c = AreEquivalent m.states b c × (kind_of b ≡ kind_of c)
+
+-- the byte is the first, or not like the one before it
+abbrev pub BeginsClass : ByteSet → ℕ → Type 0
+BeginsClass boundaries b = (b ≡ 0) ⊎ ((c : ℕ) × (b ≡ c + 1) × IsTrue (has_byte boundaries c))
+
+-- a byte that is not in the set is like the one after it
+abbrev pub AreBoundaries : NfaValue → ByteSet → Type 0
+AreBoundaries m set = (b : ℕ) → b + 1 < 256 → (IsTrue (has_byte set b) → ⊥) → AreAlike m b (b + 1)
+
+-- what a search tells: a path that is wanted, or that there is none, or that there are more rows than the limit
+abbrev pub TellsSearch : NfaValue → ℕ → Domain → ℕ → Answer → Type 0
+TellsSearch m n domain limit (Found path) = AllBytes path.items × WantsFrom m n domain path.items
+TellsSearch m n domain limit Nothing = (y : List ℕ) → AllBytes y → WantsFrom m n domain y → ⊥
+TellsSearch m n domain limit Limit = HasMoreRows m domain limit

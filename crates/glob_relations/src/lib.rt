@@ -1,0 +1,27 @@
+//! Containment and disjointness of what globs match: whether each path that a glob matches is matched by some glob of a list,
+//! and whether some path is matched by both of two globs. Each answer that says no, or yes, has a path that shows it.
+//!
+//! [`covering`] and [`overlap`] are the calls. A question is about the paths of a [`Domain`].
+//!
+//! ```
+//! use glob_relations::{Coverage, Domain, covering};
+//! use globset_glob::Glob;
+//!
+//! let glob = Glob::new(alloc, "src/a/*.c")?;
+//! let by = Vec::from_array(alloc, [Glob::new(alloc, "docs/**")?, Glob::new(alloc, "src/**")?])?;
+//! let answer = covering(alloc, &glob, &by, Domain::RelativePaths, 1000)?;
+//! assert!(rt; matches!(&answer, Coverage::Covered));
+//! ```
+#![tactic(auto)]
+
+mod domain;
+mod pass;
+mod relations;
+mod rows;
+mod search;
+
+pub use domain::Domain;
+pub use relations::{Coverage, Intersection, covering, overlap};
+
+#[cfg(test)]
+mod tests;

@@ -1,0 +1,131 @@
+//! The questions about globs.
+
+ghost use Rattle.std.specs.Prelude.{◌≡◌, ℕ, ◌<◌, ◌++◌, ◌∷◌, [], List, OnOk, IfOk, IsOkUnless};
+ghost use Rattle.byte_nfa.specs.Runs.{size};
+ghost use Rattle.glob_nfa.specs.IndexedTokens.{IndexedTokens, IsFor};
+ghost use Rattle.glob_text.specs.Errors.{out_of_memory};
+ghost use Rattle.glob_relations.specs.Answers.{TellsCovering, TellsOverlap};
+ghost use Rattle.glob_relations.specs.inner.Told.{coverage_of, intersection_of};
+ghost use Rattle.glob_relations.specs.inner.Automata.{indexed_glob, indexed_globs};
+
+use crate::domain::Domain;
+use crate::search::{Answer, search};
+use byte_nfa::{Builder, Nfa};
+use glob_nfa::{add_tokens, new_builder};
+use globset_glob::{Error, Glob, options_of, tokens_of};
+use std::alloc::{AllocError, Global};
+
+/// Whether globs cover a glob.
+#[derive(Drop)]
+pub enum Coverage {
+    /// Each path of the domain that the glob matches is matched by some of the others.
+    Covered,
+    /// This path of the domain is matched by the glob, and by none of the others.
+    Not(Vec<u8>),
+    /// There are more rows than the limit.
+    Unknown,
+}
+
+/// Whether globs match some path in common.
+#[derive(Drop)]
+pub enum Intersection {
+    /// No path of the domain is matched by both.
+    Disjoint,
+    /// This path of the domain is matched by both.
+    Both(Vec<u8>),
+    /// There are more rows than the limit.
+    Unknown,
+}
+
+/// Returns whether each path of a domain that a glob matches is matched by some of other globs, or else a path that is not.
+///
+/// Globs match here as their matchers do, also those that a set excludes. It returns [`Coverage::Unknown`] if paths lead to more than
+/// `limit` rows, of which each is a set of states of the globs, and what the bytes of a path so far say of the domain. Memory is at
+/// most linear in the rows, times the states of the globs. Returns an error if memory runs out.
+pub fn covering(
+    alloc: Global,
+    glob: &Glob,
+    by: &[Glob],
+    domain: Domain,
+    limit: usize,
+) -> Result<Coverage, Error>
+    ensures ok { IfOk result (TellsCovering glob.now by.now domain limit) }
+    ensures err { IsOkUnless result out_of_memory }
+{
+    let automaton = automaton_of_one(alloc, glob, by)?;
+    let answer = search(alloc, &automaton, 1, domain, limit)?;
+    Ok(coverage_of(answer))
+}
+
+fn coverage_of(answer: Answer) -> Coverage
+    ensures { result ≡ coverage_of answer }
+{
+    match answer {
+        Answer::Found(path) => Coverage::Not(path),
+        Answer::Nothing => Coverage::Covered,
+        Answer::Limit => Coverage::Unknown,
+    }
+}
+
+/// Returns whether two globs match no path of a domain in common, or else a path that both match.
+///
+/// It has the limit and the cost of [`covering`]. Returns an error if memory runs out.
+pub fn overlap(
+    alloc: Global,
+    a: &Glob,
+    b: &Glob,
+    domain: Domain,
+    limit: usize,
+) -> Result<Intersection, Error>
+    ensures ok { IfOk result (TellsOverlap a.now b.now domain limit) }
+    ensures err { IsOkUnless result out_of_memory }
+{
+    let automaton = automaton_of_two(alloc, a, b)?;
+    let answer = search(alloc, &automaton, 2, domain, limit)?;
+    Ok(intersection_of(answer))
+}
+
+fn intersection_of(answer: Answer) -> Intersection
+    ensures { result ≡ intersection_of answer }
+{
+    match answer {
+        Answer::Found(path) => Intersection::Both(path),
+        Answer::Nothing => Intersection::Disjoint,
+        Answer::Limit => Intersection::Unknown,
+    }
+}
+
+/// Returns an automaton in which a glob has the index 0, and each of others has the index 1.
+fn automaton_of_one(alloc: Global, glob: &Glob, others: &[Glob]) -> Result<Nfa, AllocError>
+    ensures { IfOk result
+        (λ m. IsFor m (indexed_glob 0 glob.now ∷ indexed_globs 1 others.now)) }
+{
+    let mut builder = new_builder(alloc, 2);
+    add(alloc, &mut builder, glob, 0)?;
+    for other in others {
+        add(alloc, &mut builder, other, 1)?;
+    }
+    Ok(builder.finish())
+}
+
+/// Returns an automaton in which a glob has the index 0, and another one has the index 1, and none has the index 2.
+fn automaton_of_two(alloc: Global, a: &Glob, b: &Glob) -> Result<Nfa, AllocError>
+    ensures { IfOk result
+        (λ m. IsFor m (indexed_glob 0 a.now ∷ indexed_glob 1 b.now ∷ [])) }
+{
+    let mut builder = new_builder(alloc, 3);
+    add(alloc, &mut builder, a, 0)?;
+    add(alloc, &mut builder, b, 1)?;
+    Ok(builder.finish())
+}
+
+/// Adds a glob to an automaton that is being built, under an index.
+fn add(alloc: Global, builder: &mut Builder, glob: &Glob, index: usize) -> Result<(), AllocError>
+    requires { index < builder.old.index_count }
+    ensures added { OnOk result
+        ((xs : List IndexedTokens) → IsFor builder.old xs
+        → IsFor builder.new (xs ++ indexed_glob index glob.now ∷ [])) }
+    ensures index_count { builder.new.index_count ≡ builder.old.index_count }
+{
+    add_tokens(alloc, builder, options_of(glob), tokens_of(glob), index)
+}

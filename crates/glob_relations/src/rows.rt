@@ -1,0 +1,98 @@
+//! Rows: what a path so far leads to.
+
+ghost use Rattle.std.specs.Prelude.{◌≡◌, ℕ, ◌<◌, ◌↔◌, ◌∷◌, [], List, length, slice_get, Some, IfOk, OnOk};
+ghost use Rattle.bit_sets.specs.Texts.{AllBytes};
+ghost use Rattle.byte_nfa.specs.Steps.{NfaValue};
+
+use crate::domain::Place;
+use indexmap::IndexSet;
+use std::alloc::{AllocError, Global};
+
+/// A row: the place at which a path is, and the states of an automaton that it leads to.
+#[derive(PartialEq, Eq, Hash, Drop)]
+pub struct Row {
+    pub place: Place,
+    pub states: Vec<usize>,
+}
+
+/// Where a row came from: the byte that led to it, and the number of the row that it was read in.
+#[derive(Clone, Copy)]
+pub struct Origin {
+    pub row: usize,
+    pub byte: u8,
+}
+
+/// Rows, each once, in the order in which they were added.
+#[derive(Drop)]
+pub struct Rows {
+    pub seen: IndexSet<Row>,
+    /// Where each row came from. The first one has an origin of no meaning.
+    pub origins: Vec<Origin>,
+}
+
+impl Rows {
+    ghost use Rattle.glob_relations.specs.declared.domain.Domain.{Domain};
+    ghost use Rattle.glob_relations.specs.inner.Rows.{AddsRow, AreDifferent, AreRows, HasRow, WantsRow, WantsFrom};
+
+    /// Returns no rows. It allocates nothing.
+    pub fn new(alloc: Global) -> Rows
+        ensures rows { result.seen.keys ≡ [] }
+        ensures origins { result.origins.items ≡ [] }
+    {
+        Rows {
+            seen: IndexSet::new(alloc),
+            origins: Vec::new(alloc),
+        }
+    }
+
+    /// Returns the number of rows.
+    pub fn len(&self) -> usize
+        ensures len { result ≡ length self.now.seen.keys }
+        ensures different { AreDifferent self.now.seen.keys }
+    {
+        self.seen.len()
+    }
+
+    /// Adds a row, unless it is there.
+    pub fn add(&mut self, row: Row, origin: Origin) -> Result<(), AllocError>
+        ensures { OnOk result (AddsRow self.old self.new row origin) }
+    {
+        let (_, is_new) = self.seen.insert_full(row)?;
+        if is_new {
+            self.origins.push(origin)?;
+        }
+        Ok(())
+    }
+
+    /// Returns a row by its number.
+    pub fn row(&self, number: usize) -> &Row
+        requires { number < length self.now.seen.keys }
+        ensures { HasRow self.now number result.now }
+    {
+        self.seen.get_index(number).unwrap()
+    }
+
+    /// Returns the bytes that led from the first row to a row.
+    pub fn path_to(&self, alloc: Global, number: usize) -> Result<Vec<u8>, AllocError>
+        requires number { number < length self.now.seen.keys }
+        requires origins { length self.now.origins.items ≡ length self.now.seen.keys }
+        requires rows { (i : ℕ) (origin : Origin) → 0 < i
+            → slice_get self.now.origins.items i ≡ Some origin
+            → (origin.row < i) × (origin.byte < 256) }
+        ensures path { IfOk result
+            (λ path. (m : NfaValue) (n : ℕ) (domain : Domain) (row : Row)
+            → AreRows m domain self.now → HasRow self.now number row → WantsRow m n row []
+            → WantsFrom m n domain path.items) }
+        ensures bytes { IfOk result (λ path. AllBytes path.items) }
+    {
+        let mut path = Vec::new(alloc);
+        let mut at = number;
+        while at > 0 {
+            let origin = &self.origins[at];
+            path.push(origin.byte)?;
+            at = origin.row;
+        }
+        path.reverse();
+        Ok(path)
+    }
+}

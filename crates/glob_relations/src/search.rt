@@ -1,0 +1,233 @@
+//! A search for a path: breadth first, over the rows that paths lead to.
+
+ghost use Rattle.std.specs.Prelude.{◌≡◌, ℕ, ◌+◌, ◌<◌, ◌≤◌, ◌↔◌, ◌∷◌, [], List, length, None, IsTrue, IfOk, OnOk, MatchOption};
+ghost use Rattle.bit_sets.specs.Indexes.{index_capacity};
+ghost use Rattle.bit_sets.specs.Numbers.{AreBelow};
+ghost use Rattle.bit_sets.specs.StateSets.{state_capacity};
+ghost use Rattle.byte_nfa.specs.Runs.{size};
+ghost use Rattle.glob_relations.specs.inner.Rows.{AreRows, AreStates, AreBoundaries, AreDone, BeginsClass, GoesTo, HasRow, IsFollowed, IsFollowedBy, KeepsRows, TellsSearch, WantsRow};
+ghost use Rattle.glob_relations.specs.inner.Memory.{HasRoom};
+ghost use Rattle.glob_relations.specs.inner.Places.{place_after};
+
+use crate::domain::Domain;
+use crate::pass::{is_wanted, states_of, step};
+use crate::rows::{Origin, Row, Rows};
+use bit_sets::{ByteSet, IndexSet, StateSet};
+use byte_nfa::Nfa;
+use std::alloc::{AllocError, Global};
+
+/// What a search returns.
+#[derive(Drop)]
+pub enum Answer {
+    /// A path that is wanted.
+    Found(Vec<u8>),
+    /// No path is wanted.
+    Nothing,
+    /// There are more rows than the limit.
+    Limit,
+}
+
+/// The sets of states, and of indexes, that steps need.
+#[derive(Drop)]
+pub struct Memory {
+    pub from: StateSet,
+    pub to: StateSet,
+    pub ends: IndexSet,
+}
+
+impl Memory {
+    ghost use Rattle.glob_relations.specs.inner.Memory.{HasRoom};
+
+    /// Returns memory for an automaton.
+    fn new(alloc: Global, automaton: &Nfa) -> Result<Memory, AllocError>
+        ensures { IfOk result (HasRoom automaton.now) }
+    {
+        let states = automaton.state_count();
+        let from = StateSet::new(alloc, states)?;
+        let to = StateSet::new(alloc, states)?;
+        let ends = IndexSet::new(alloc, automaton.index_count())?;
+        Ok(Memory { from, to, ends })
+    }
+}
+
+/// Looks for a path of a domain that an automaton reads to ends of all indexes below `required`, and to no end of `required`.
+///
+/// It stops when there are more rows than the limit. Returns an error if memory runs out.
+pub fn search(
+    alloc: Global,
+    automaton: &Nfa,
+    required: usize,
+    domain: Domain,
+    limit: usize,
+) -> Result<Answer, AllocError>
+    ensures { IfOk result (TellsSearch automaton.now required domain limit) }
+{
+    let mut memory = Memory::new(alloc, automaton)?;
+    let boundaries = boundaries_of(automaton);
+    let mut rows = first_rows(alloc, automaton, domain, &mut memory)?;
+    let mut next = 0;
+    while next < rows.len() {
+        if rows.len() > limit {
+            return Ok(Answer::Limit);
+        }
+        if is_row_wanted(automaton, required, rows.row(next), &mut memory) {
+            let path = rows.path_to(alloc, next)?;
+            return Ok(Answer::Found(path));
+        }
+        expand(
+            alloc,
+            automaton,
+            required,
+            domain,
+            &boundaries,
+            &mut rows,
+            next,
+            &mut memory,
+        )?;
+        next += 1;
+    }
+    Ok(Answer::Nothing)
+}
+
+/// Returns a set that has each byte that is not read as the one after it is.
+fn boundaries_of(automaton: &Nfa) -> ByteSet
+    ensures { AreBoundaries automaton.now result }
+{
+    automaton
+        .class_boundaries()
+        .with(0)
+        .with(b'.' - 1)
+        .with(b'.')
+        .with(b'/')
+}
+
+/// Returns whether a byte is the first of those that are read as it is, in a row.
+fn begins_class(boundaries: &ByteSet, byte: u8) -> bool
+    ensures { IsTrue result ↔ BeginsClass boundaries.now byte }
+{
+    byte == 0 || boundaries.has(byte - 1)
+}
+
+/// Returns the row in which a path begins, alone.
+fn first_rows(
+    alloc: Global,
+    automaton: &Nfa,
+    domain: Domain,
+    memory: &mut Memory,
+) -> Result<Rows, AllocError>
+    requires { HasRoom automaton.now memory.old }
+    ensures room { HasRoom automaton.now memory.new }
+    ensures rows { IfOk result (AreRows automaton.now domain) }
+{
+    automaton.start(&mut memory.from);
+    let states = states_of(alloc, &memory.from, automaton.state_count())?;
+    let mut rows = Rows::new(alloc);
+    let place = domain.first_place();
+    rows.add(Row { place, states }, Origin { row: 0, byte: 0 })?;
+    Ok(rows)
+}
+
+/// Returns whether a path that leads to a row is wanted.
+fn is_row_wanted(automaton: &Nfa, required: usize, row: &Row, memory: &mut Memory) -> bool
+    requires room { HasRoom automaton.now memory.old }
+    requires states { AreStates (size automaton.now) row.now.states.items }
+    ensures room { HasRoom automaton.now memory.new }
+    ensures wanted { IsTrue result ↔ WantsRow automaton.now required row.now [] }
+{
+    row.place.is_last()
+        && is_wanted(
+            automaton,
+            required,
+            &row.states,
+            &mut memory.from,
+            &mut memory.ends,
+        )
+}
+
+/// Returns the row after a byte, or `None` if no path of the domain goes on so.
+fn next_row(
+    alloc: Global,
+    automaton: &Nfa,
+    row: &Row,
+    byte: u8,
+    memory: &mut Memory,
+) -> Result<Option<Row>, AllocError>
+    requires room { HasRoom automaton.now memory.old }
+    requires states { AreStates (size automaton.now) row.now.states.items }
+    ensures room { HasRoom automaton.now memory.new }
+    ensures next { IfOk result
+        (λ found. MatchOption found (place_after row.now.place byte ≡ None)
+        (λ next. AreStates (size automaton.now) next.states.items
+        × GoesTo automaton.now row.now byte next)) }
+{
+    let Some(place) = row.place.after(byte) else {
+        return Ok(None);
+    };
+    step(
+        automaton,
+        &row.states,
+        byte,
+        &mut memory.from,
+        &mut memory.to,
+    );
+    let states = states_of(alloc, &memory.to, automaton.state_count())?;
+    Ok(Some(Row { place, states }))
+}
+
+/// Adds the rows that bytes lead to from a row.
+fn expand(
+    alloc: Global,
+    automaton: &Nfa,
+    required: usize,
+    domain: Domain,
+    boundaries: &ByteSet,
+    rows: &mut Rows,
+    number: usize,
+    memory: &mut Memory,
+) -> Result<(), AllocError>
+    requires room { HasRoom automaton.now memory.old }
+    requires rows { AreRows automaton.now domain rows.old }
+    requires number { number < length rows.old.seen.keys }
+    requires boundaries { AreBoundaries automaton.now boundaries.now }
+    ensures room { HasRoom automaton.now memory.new }
+    ensures rows { OnOk result (AreRows automaton.now domain rows.new) }
+    ensures kept { OnOk result (KeepsRows rows.old rows.new) }
+    ensures followed { OnOk result (IsFollowed automaton.now required rows.new number) }
+{
+    for i in 0..256usize {
+        let byte = i as u8;
+        if begins_class(boundaries, byte) {
+            add_next(
+                alloc, automaton, required, domain, rows, number, byte, memory,
+            )?;
+        }
+    }
+    Ok(())
+}
+
+/// Adds the row that a byte leads to from a row, unless it is there.
+fn add_next(
+    alloc: Global,
+    automaton: &Nfa,
+    required: usize,
+    domain: Domain,
+    rows: &mut Rows,
+    number: usize,
+    byte: u8,
+    memory: &mut Memory,
+) -> Result<(), AllocError>
+    requires room { HasRoom automaton.now memory.old }
+    requires rows { AreRows automaton.now domain rows.old }
+    requires number { number < length rows.old.seen.keys }
+    ensures room { HasRoom automaton.now memory.new }
+    ensures rows { OnOk result (AreRows automaton.now domain rows.new) }
+    ensures kept { OnOk result (KeepsRows rows.old rows.new) }
+    ensures followed { OnOk result (IsFollowedBy automaton.now required rows.new number byte) }
+{
+    let _domain = domain;
+    let _required = required;
+    if let Some(row) = next_row(alloc, automaton, rows.row(number), byte, memory)? {
+        rows.add(row, Origin { row: number, byte })?;
+    }
+    Ok(())
+}
