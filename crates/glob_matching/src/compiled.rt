@@ -4,18 +4,15 @@ ghost use Rattle.std.specs.Prelude.{◌≡◌, ℕ, ◌+◌, ◌*◌, ◌≤◌,
 ghost use Rattle.byte_nfa.specs.Runs.{size, max_reads};
 ghost use Rattle.byte_nfa.specs.Steps.{IsReached};
 ghost use Rattle.bit_sets.specs.Indexes.{index_capacity};
-ghost use Rattle.nfa_sharing.specs.Sharing.{Shares};
 ghost use Rattle.lazy_dfa.specs.Sets.{sets_capacity};
 ghost use Rattle.glob_nfa.specs.IndexedTokens.{IndexedTokens, IsFor, SomeMeanAfter};
 ghost use Rattle.glob_matching.specs.Matching.{AddsMatches, TellsMatch};
 
-use crate::row_cache::RowCache;
 use crate::rows::RowSource;
 use crate::source::Source;
 use bit_sets::{IndexSet, Visits};
 use byte_nfa::Nfa;
-use lazy_dfa::{LazyDfa, StateSets};
-use nfa_sharing::shared;
+use lazy_dfa::{Cache, LazyDfa, StateSets};
 use std::alloc::{AllocError, Global};
 use std::marker::Model;
 use std::sync::Arc;
@@ -28,7 +25,6 @@ pub const DEFAULT_DFA_SIZE_LIMIT: usize = 1 << 24;
 #[derive(Drop)]
 pub struct Compiled {
     source: Source,
-    /// It leads to the same ends. If there is more than one start, texts that begin alike share states in it.
     dfa: Arc<LazyDfa>,
     rows: Option<RowSource>,
 }
@@ -37,13 +33,12 @@ impl Model for Compiled {
     ghost use Rattle.std.specs.Arc.{arc_value};
     ghost use Rattle.std.specs.Prelude.{◌≡◌, IfSome};
     ghost use Rattle.byte_nfa.specs.Steps.{NfaValue};
-    ghost use Rattle.nfa_sharing.specs.Sharing.{Shares};
-
+    
     ghost Value = { NfaValue };
 
     ghost view = { λ c. c.source };
 
-    ghost invariant = { λ c. Shares c.source (arc_value c.dfa) × IfSome c.rows (λ r. r ≡ c.source) };
+    ghost invariant = { λ c. ((arc_value c.dfa).nfa ≡ c.source) × IfSome c.rows (λ r. r ≡ c.source) };
 }
 
 impl Compiled {
@@ -60,7 +55,7 @@ impl Compiled {
         ensures { IfOk result (λ c. c ≡ automaton) }
     {
         let source = Source::of(&automaton)?;
-        let dfa = Arc::new(alloc, lazy_dfa_of(alloc, &automaton)?)?;
+        let dfa = Arc::new(alloc, LazyDfa::new(alloc, &automaton)?)?;
         let rows = RowSource::new(alloc, dfa_size_limit, &automaton, &dfa, all_states)?;
         Ok(Compiled { source, dfa, rows })
     }
@@ -72,7 +67,7 @@ impl Compiled {
 
     /// Returns a cache with no rows for this automaton, or `None` if there is no room for rows. All memory that it needs is taken here.
     /// Returns an error if memory runs out.
-    pub fn new_cache(&self, alloc: Global) -> Result<Option<RowCache>, AllocError>
+    pub fn new_cache(&self, alloc: Global) -> Result<Option<Cache>, AllocError>
         ensures { IfOk result (λ made. IfSome made (λ cache. cache ≡ self.now)) }
     {
         match &self.rows {
@@ -112,7 +107,7 @@ impl Compiled {
         ensures none_without_starts { visits.new ≤ visits.old + length self.now.starts }
         ensures counted { visits.old ≤ visits.new }
     {
-        if self.dfa.start_count() == 0 {
+        if !self.dfa.has_starts() {
             return true;
         }
         self.source.rejects_last_byte(text, visits)
@@ -204,7 +199,7 @@ impl Compiled {
         ensures visits { visits.new ≤ visits.old + (length text.now + 2) * max_reads self.now }
         ensures counted { visits.old ≤ visits.new }
     {
-        if self.dfa.start_count() == 0 {
+        if !self.dfa.has_starts() {
             return Ok(false);
         }
         if let Some(rows) = &self.rows {
@@ -229,7 +224,7 @@ impl Compiled {
         &self,
         text: &[u8],
         sets: &mut StateSets,
-        cache: &mut Option<RowCache>,
+        cache: &mut Option<Cache>,
         found: &mut IndexSet,
         visits: &mut Visits,
     ) -> Result<(), AllocError>
@@ -259,7 +254,7 @@ impl Compiled {
         &self,
         text: &[u8],
         sets: &mut StateSets,
-        cache: &mut Option<RowCache>,
+        cache: &mut Option<Cache>,
         visits: &mut Visits,
     ) -> Result<bool, AllocError>
         requires { IfSome cache.old (λ c. c ≡ self.now) }
@@ -287,7 +282,7 @@ impl Compiled {
         text: &[u8],
         byte: u8,
         sets: &mut StateSets,
-        cache: &mut Option<RowCache>,
+        cache: &mut Option<Cache>,
         visits: &mut Visits,
     ) -> Result<bool, AllocError>
         requires { IfSome cache.old (λ c. c ≡ self.now) }
@@ -303,23 +298,9 @@ impl Compiled {
         let Some(rows) = cache else {
             return self.can_match_after(text, byte, sets, visits);
         };
-        if self.dfa.start_count() == 0 {
+        if !self.dfa.has_starts() {
             return Ok(false);
         }
         Ok(rows.can_match_after(text, byte, visits))
     }
-}
-
-/// Returns what an automaton is run by. It leads to the same ends, and if there is more than one start, texts that begin alike share
-/// states in it, unless that would be more states. Returns an error if memory runs out.
-fn lazy_dfa_of(alloc: Global, automaton: &Nfa) -> Result<LazyDfa, AllocError>
-    ensures { IfOk result (λ dfa. Shares automaton.now dfa) }
-{
-    // Only texts from two starts may begin alike.
-    if automaton.starts().len() > 1 {
-        if let Some(sharing) = shared(alloc, automaton)? {
-            return LazyDfa::new(alloc, &sharing);
-        }
-    }
-    LazyDfa::new(alloc, automaton)
 }

@@ -3,9 +3,9 @@
 ghost use Rattle.std.specs.Prelude.{◌≡◌, IfSome};
 
 use crate::published::Published;
-use crate::row_cache::RowCache;
 use crate::rows::FEWEST_BYTES;
 use byte_nfa::Nfa;
+use lazy_dfa::Cache;
 use cache_pool::Pool;
 use counted_slot::Fits;
 use std::marker::Model;
@@ -14,8 +14,7 @@ use std::sync::atomic::{AtomicUsize, Ordering};
 /// A cache as it is kept.
 #[derive(Drop)]
 pub struct Kept {
-    /// In a box, so that little is moved.
-    pub cache: Box<RowCache>,
+    pub cache: Cache,
     /// How many bytes its rows may take.
     bytes: usize,
     /// How many calls used it.
@@ -25,7 +24,7 @@ pub struct Kept {
 impl Fits for Kept {
     type Tag = Nfa;
 
-    ghost fits = { λ automaton kept. kept.cache.value ≡ automaton };
+    ghost fits = { λ automaton kept. kept.cache ≡ automaton };
 }
 
 /// The caches of one automaton that calls through a shared reference use. Contracts see the automaton.
@@ -62,7 +61,7 @@ impl Model for KeptCaches {
 
 impl Kept {
     /// Returns a cache of so many bytes that no call used yet.
-    pub fn new(cache: Box<RowCache>, bytes: usize) -> Kept
+    pub fn new(cache: Cache, bytes: usize) -> Kept
         ensures { result.cache ≡ cache }
     {
         Kept {
@@ -111,13 +110,13 @@ impl KeptCaches {
 
     /// Takes a cache out for one call, if one is there that no other call uses.
     pub fn take(&self) -> Option<Kept>
-        ensures { IfSome result (λ kept. kept.cache.value ≡ self.now) }
+        ensures { IfSome result (λ kept. kept.cache ≡ self.now) }
     {
         self.pool.take()
     }
 
     /// Returns the cache that was published last, if there is one.
-    pub fn published(&self) -> Option<&RowCache>
+    pub fn published(&self) -> Option<&Cache>
         ensures { IfSome result (λ cache. cache.now ≡ self.now) }
     {
         if let Some(kept) = self.third.get() {
@@ -135,7 +134,7 @@ impl KeptCaches {
     /// Gives a cache back after a call, for later calls. In a call that may take memory, one that has no room for all rows makes way
     /// for a larger one; and one that so many calls used is published: the next call for which it lacks an entry makes another.
     pub fn give(&self, kept: Kept, may_make: bool)
-        requires { kept.cache.value ≡ self.now }
+        requires { kept.cache ≡ self.now }
     {
         let Kept { cache, bytes, uses } = kept;
         let uses = uses.saturating_add(1);
@@ -162,7 +161,7 @@ impl KeptCaches {
 
     /// Puts a cache into the pool.
     pub fn put(&self, kept: Kept)
-        requires { kept.cache.value ≡ self.now }
+        requires { kept.cache ≡ self.now }
     {
         if let Some(kept) = self.pool.give(kept) {
             // Other calls were at every place, so this cache is dropped, and another may be made for it.

@@ -8,11 +8,9 @@
 mod compiled;
 mod kept;
 mod published;
-mod row_cache;
 mod rows;
 mod scratch;
 mod source;
 
 pub use compiled::{Compiled, DEFAULT_DFA_SIZE_LIMIT};
-pub use row_cache::RowCache;
 pub use scratch::{NeedsScratch, Scratch};

@@ -26,7 +26,7 @@ impl SlotRule<Kept> for IsForNumbers {
     ghost use Rattle.byte_nfa.specs.Steps.{NfaValue};
     ghost use Rattle.glob_matching.specs.inner.Numbers.{numbers};
 
-    ghost holds = { λ list kept. (nfa : NfaValue) → numbers nfa ≡ list → kept.cache.value ≡ nfa };
+    ghost holds = { λ list kept. (nfa : NfaValue) → numbers nfa ≡ list → kept.cache ≡ nfa };
 }
 
 /// Room for one cache, for good. Contracts see the automaton that the cache is for.
@@ -61,15 +61,15 @@ impl Published {
 
     /// Returns the cache, if there is one.
     pub fn get(&self) -> Option<&Kept>
-        ensures { IfSome result (λ kept. kept.now.cache.value ≡ self.now) }
+        ensures { IfSome result (λ kept. kept.now.cache ≡ self.now) }
     {
         self.slot.get()
     }
 
     /// Puts the cache in, for good. Returns it if there is one already, or another call is putting one in.
     pub fn set(&self, kept: Kept) -> Option<Kept>
-        requires { kept.cache.value ≡ self.now }
-        ensures { IfSome result (λ kept. kept.cache.value ≡ self.now) }
+        requires { kept.cache ≡ self.now }
+        ensures { IfSome result (λ kept. kept.cache ≡ self.now) }
     {
         match self.slot.set(kept) {
             Ok(_) => None,

@@ -6,14 +6,12 @@ ghost use Rattle.bit_sets.specs.Indexes.{index_capacity};
 ghost use Rattle.byte_nfa.specs.Live.{MatchesAfter};
 ghost use Rattle.byte_nfa.specs.Runs.{size};
 ghost use Rattle.byte_nfa.specs.Steps.{IsReached};
-ghost use Rattle.nfa_sharing.specs.Sharing.{Shares};
 ghost use Rattle.glob_matching.specs.inner.Found.{AddsReached, AddsSome};
 
 use crate::kept::{Kept, KeptCaches, MOST_KEPT};
-use crate::row_cache::RowCache;
 use bit_sets::{IndexSet, Visits};
 use byte_nfa::Nfa;
-use lazy_dfa::LazyDfa;
+use lazy_dfa::{Cache, LazyDfa};
 use std::alloc::{AllocError, Global};
 use std::marker::Model;
 use std::snapshot::Snapshot;
@@ -24,7 +22,6 @@ use std::sync::Arc;
 #[derive(Drop)]
 pub struct RowSource {
     alloc: Global,
-    /// It is made from an automaton that leads to the same ends.
     dfa: Arc<LazyDfa>,
     /// How many bytes the rows of a cache take at most.
     cache_bytes: usize,
@@ -37,17 +34,16 @@ impl Model for RowSource {
     ghost use Rattle.std.specs.Arc.{arc_value};
     ghost use Rattle.std.specs.Prelude.{◌≡◌};
     ghost use Rattle.byte_nfa.specs.Steps.{NfaValue};
-    ghost use Rattle.nfa_sharing.specs.Sharing.{Shares};
-
+    
     ghost Value = { NfaValue };
 
     ghost view = { λ r. r.source.value };
 
-    ghost invariant = { λ r. Shares r.source.value (arc_value r.dfa) × (r.kept.value ≡ r.source.value) };
+    ghost invariant = { λ r. ((arc_value r.dfa).nfa ≡ r.source.value) × (r.kept.value ≡ r.source.value) };
 }
 
 impl RowSource {
-    /// Returns what rows of an automaton are made from, by `sharing`, which leads to the same ends.
+    /// Returns what rows of an automaton are made from.
     ///
     /// At most four caches are kept between calls, which take at most the share of `dfa_size_limit` bytes that the states have in
     /// `all_states`. It takes time and memory linear in the states. Returns `None` if the share is too small or there are too many
@@ -59,7 +55,7 @@ impl RowSource {
         dfa: &Arc<LazyDfa>,
         all_states: usize,
     ) -> Result<Option<RowSource>, AllocError>
-        requires { Shares automaton.now (arc_value dfa.now) }
+        requires { (arc_value dfa.now).nfa ≡ automaton.now }
         ensures { IfOk result (λ made. IfSome made (λ rows. rows ≡ automaton.now)) }
     {
         let cache_bytes = share_of(
@@ -80,10 +76,10 @@ impl RowSource {
     }
 
     /// Returns a cache with no rows. All memory that it needs is taken here. Returns an error if memory runs out.
-    pub fn new_cache(&self, alloc: Global) -> Result<RowCache, AllocError>
+    pub fn new_cache(&self, alloc: Global) -> Result<Cache, AllocError>
         ensures { IfOk result (λ cache. cache ≡ self.now) }
     {
-        RowCache::new(alloc, &self.dfa, self.cache_bytes, &self.source)
+        Cache::new(alloc, &self.dfa, self.cache_bytes)
     }
 
     /// Returns how many bytes the caches take that are kept between calls.
@@ -104,7 +100,7 @@ impl RowSource {
 
     /// Takes a cache that is kept for one call. If there is none and memory may be taken, it makes one, but for the first calls.
     fn take(&self, may_make: bool) -> Option<Kept>
-        ensures { IfSome result (λ kept. kept.cache.value ≡ self.now) }
+        ensures { IfSome result (λ kept. kept.cache ≡ self.now) }
     {
         if let Some(taken) = self.kept.take() {
             return Some(taken);
@@ -117,7 +113,7 @@ impl RowSource {
 
     /// Makes a cache of so many bytes, if fewer are kept than may be, and there is memory for it.
     fn make(&self, bytes: usize) -> Option<Kept>
-        ensures { IfSome result (λ kept. kept.cache.value ≡ self.now) }
+        ensures { IfSome result (λ kept. kept.cache ≡ self.now) }
     {
         if !self.kept.count_one_more(bytes) {
             return None;
@@ -131,16 +127,16 @@ impl RowSource {
         }
     }
 
-    /// Returns a cache of so many bytes, in a box. It begins with the rows that were published last, since calls that find all they
+    /// Returns a cache of so many bytes. It begins with the rows that were published last, since calls that find all they
     /// need there never come to it. Returns an error if memory runs out.
     fn new_kept(&self, bytes: usize) -> Result<Kept, AllocError>
-        ensures { IfOk result (λ kept. kept.cache.value ≡ self.now) }
+        ensures { IfOk result (λ kept. kept.cache ≡ self.now) }
     {
         let cache = match self.kept.published() {
-            Some(known) => RowCache::with_rows_of(self.alloc, known, bytes, &self.source)?,
-            None => RowCache::new(self.alloc, &self.dfa, bytes, &self.source)?,
+            Some(known) => Cache::with_rows_of(self.alloc, known, bytes)?,
+            None => Cache::new(self.alloc, &self.dfa, bytes)?,
         };
-        Ok(Kept::new(Box::new(self.alloc, cache)?, bytes))
+        Ok(Kept::new(cache, bytes))
     }
 }
 

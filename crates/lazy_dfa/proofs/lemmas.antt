@@ -1,6 +1,5 @@
 pub mod Lists
 pub mod Classes
-pub mod Unique
 pub mod Finding
 pub mod Rows
 pub mod After
@@ -8,3 +7,5 @@ pub mod Ends
 pub mod Reading
 pub mod Listing
 pub mod Stepping
+pub mod Running
+pub mod Shared

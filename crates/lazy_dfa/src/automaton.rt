@@ -1,12 +1,15 @@
 //! What the caches of all threads are made for.
 
-ghost use Rattle.std.specs.Prelude.{◌≡◌, ℕ, ◌+◌, ◌*◌, ◌≤◌, ◌⊎◌, ◌↔◌, ◌++◌, ◌∷◌, [], length, IsTrue, IsOk, OnOk, IfOk};
+ghost use Rattle.std.specs.Prelude.{◌≡◌, ℕ, ◌+◌, ◌*◌, ◌≤◌, ◌⊎◌, ◌↔◌, ◌++◌, ◌∷◌, [], List, length, IsTrue, IsFalse, IsOk, OnOk, IfOk, IfSome};
 ghost use Rattle.bit_sets.specs.Indexes.{has_index, index_capacity};
 ghost use Rattle.byte_nfa.specs.Live.{MatchesAfter};
 ghost use Rattle.byte_nfa.specs.Runs.{size};
-ghost use Rattle.byte_nfa.specs.Steps.{NfaValue, IsReached};
+ghost use Rattle.byte_nfa.specs.Steps.{IsReached};
+ghost use Rattle.bit_sets.specs.StateSets.{state_capacity};
+ghost use Rattle.byte_nfa.specs.Live.{AreLive};
 ghost use Rattle.lazy_dfa.specs.Sets.{sets_capacity};
-ghost use Rattle.lazy_dfa.specs.inner.Sources.{FitsU32, IsMadeOf, ListsEnds};
+ghost use Rattle.lazy_dfa.specs.inner.Classes.{AreEquivalenceClasses};
+ghost use Rattle.lazy_dfa.specs.inner.Sources.{FitsU32, ListsEnds, RunsFor};
 
 use crate::classes::ByteClasses;
 use crate::lists::put_lowered;
@@ -14,28 +17,37 @@ use crate::state_sets::StateSets;
 use crate::stepping;
 use bit_sets::{IndexSet, StateSet, Visits};
 use byte_nfa::Nfa;
+use nfa_sharing::shared;
 use std::alloc::{AllocError, Global};
 use std::marker::Model;
 use std::snapshot::Snapshot;
 
-/// An automaton as it is run. A [`Cache`](crate::Cache) makes its rows.
+/// An automaton as it is run. A [`Cache`](crate::Cache) makes its rows. Contracts see the automaton that it was made from, whose ends
+/// it finds, and the one that is run.
+///
+/// If there is more than one start, texts that begin alike share states in the one that is run. It has an end in place of each state
+/// that decides an index: so an index that is decided takes no state any more, but for those from which it is decided again.
 #[derive(Drop)]
 pub struct LazyDfa {
-    /// The automaton with an end in place of each state that decides an index. So an index that is decided takes no state any more,
-    /// but for those from which it is decided again.
-    pub(crate) automaton: Nfa,
-    pub(crate) classes: ByteClasses,
+    automaton: Nfa,
+    classes: ByteClasses,
     /// The states from which some bytes lead to an end.
-    pub(crate) live: StateSet,
+    live: StateSet,
     /// The indexes that may be found.
-    pub(crate) indexes: Vec<usize>,
-    pub(crate) source: Snapshot<Nfa>,
+    indexes: Vec<usize>,
+    source: Snapshot<Nfa>,
 }
 
 impl Model for LazyDfa {
-    ghost Value = { NfaValue };
+    ghost use Rattle.lazy_dfa.specs.LazyDfaValue.{LazyDfaValue};
+    ghost use Rattle.lazy_dfa.specs.inner.Sources.{IsMadeOf};
 
-    ghost view = { λ d. d.source.value };
+    ghost Value = { LazyDfaValue };
+
+    ghost view = { λ d. record {
+      nfa = d.source.value;
+      run = d.automaton;
+    } };
 
     ghost invariant = { λ d. IsMadeOf d.source.value d.automaton d.classes d.live d.indexes.items };
 }
@@ -46,9 +58,9 @@ impl LazyDfa {
     /// It reads each state, and takes about as much memory as the automaton. Returns an error if memory runs out, or if twice as many
     /// indexes are too many for a `usize`, for which there is no memory either.
     pub fn new(alloc: Global, automaton: &Nfa) -> Result<LazyDfa, AllocError>
-        ensures { IfOk result (λ dfa. dfa ≡ automaton.now) }
+        ensures { IfOk result (λ dfa. dfa.nfa ≡ automaton.now) }
     {
-        let Some(early_match) = automaton.with_early_matches()? else {
+        let Some(early_match) = early_match_of(alloc, automaton)? else {
             return Err(AllocError);
         };
         let classes = ByteClasses::new(&early_match);
@@ -70,18 +82,44 @@ impl LazyDfa {
         fits_u32(&self.automaton)
     }
 
-    /// Returns the number of states.
-    pub fn state_count(&self) -> usize
-        ensures { result ≡ size self.now }
+    /// Returns whether a run can begin. If not, no text leads to an end.
+    pub fn has_starts(&self) -> bool
+        ensures none { IsFalse result → (y : List ℕ) (k : ℕ) → IsReached self.now.nfa y k → ⊥ }
+        ensures some { IsTrue result → 1 ≤ length self.now.nfa.starts }
     {
-        self.automaton.state_count()
+        !self.automaton.starts().is_empty()
     }
 
-    /// Returns the number of starts.
-    pub fn start_count(&self) -> usize
-        ensures { result ≡ length self.now.starts }
+    /// Returns the automaton that is run.
+    pub(crate) fn automaton(&self) -> &Nfa
+        ensures automaton { result.now ≡ self.now.run }
+        ensures runs { RunsFor self.now.nfa result.now }
     {
-        self.automaton.starts().len()
+        &self.automaton
+    }
+
+    /// Returns the bytes by which no state of the automaton that is run goes on in different ways.
+    pub(crate) fn classes(&self) -> &ByteClasses
+        ensures few { result.now.count ≤ 256 }
+        ensures equivalence { AreEquivalenceClasses self.now.run.states result.now.class_of
+            result.now.representatives result.now.count }
+    {
+        &self.classes
+    }
+
+    /// Returns the states of the automaton that is run from which some bytes lead to an end.
+    pub(crate) fn live(&self) -> &StateSet
+        ensures live { AreLive self.now.run result.now }
+        ensures room { size self.now.run ≤ state_capacity result.now }
+    {
+        &self.live
+    }
+
+    /// Returns the indexes that may be found.
+    pub(crate) fn indexes(&self) -> &[usize]
+        ensures { ListsEnds self.now.run result.now }
+    {
+        &self.indexes
     }
 
     /// Puts the index of each end that a text leads to into a set, beside what it holds. It steps from one set of states to the next,
@@ -96,14 +134,14 @@ impl LazyDfa {
         found: &mut IndexSet,
         visits: &mut Visits,
     ) -> Result<(), AllocError>
-        requires { self.now.index_count ≤ index_capacity found.old }
+        requires { self.now.nfa.index_count ≤ index_capacity found.old }
         ensures room { index_capacity found.new ≡ index_capacity found.old }
         ensures found { OnOk result
             ((k : ℕ) → IsTrue (has_index found.new k)
-            ↔ (IsReached self.now text.now k ⊎ IsTrue (has_index found.old k))) }
+            ↔ (IsReached self.now.nfa text.now k ⊎ IsTrue (has_index found.old k))) }
         ensures kept { sets_capacity sets.old ≤ sets_capacity sets.new }
-        ensures memory { size self.now ≤ sets_capacity sets.old → IsOk result }
-        ensures visits { visits.new ≤ visits.old + (length text.now + 1) * size self.now }
+        ensures memory { size self.now.nfa ≤ sets_capacity sets.old → IsOk result }
+        ensures visits { visits.new ≤ visits.old + (length text.now + 1) * size self.now.nfa }
         ensures counted { visits.old ≤ visits.new }
     {
         sets.reserve(self.automaton.state_count())?;
@@ -122,10 +160,10 @@ impl LazyDfa {
         sets: &mut StateSets,
         visits: &mut Visits,
     ) -> Result<bool, AllocError>
-        ensures some { IfOk result (λ yes. IsTrue yes ↔ ((k : ℕ) × IsReached self.now text.now k)) }
+        ensures some { IfOk result (λ yes. IsTrue yes ↔ ((k : ℕ) × IsReached self.now.nfa text.now k)) }
         ensures kept { sets_capacity sets.old ≤ sets_capacity sets.new }
-        ensures memory { size self.now ≤ sets_capacity sets.old → IsOk result }
-        ensures visits { visits.new ≤ visits.old + (length text.now + 1) * size self.now }
+        ensures memory { size self.now.nfa ≤ sets_capacity sets.old → IsOk result }
+        ensures visits { visits.new ≤ visits.old + (length text.now + 1) * size self.now.nfa }
         ensures counted { visits.old ≤ visits.new }
     {
         sets.reserve(self.automaton.state_count())?;
@@ -145,10 +183,10 @@ impl LazyDfa {
         visits: &mut Visits,
     ) -> Result<bool, AllocError>
         ensures some { IfOk result
-            (λ yes. IsTrue yes ↔ MatchesAfter self.now (text.now ++ byte ∷ [])) }
+            (λ yes. IsTrue yes ↔ MatchesAfter self.now.nfa (text.now ++ byte ∷ [])) }
         ensures kept { sets_capacity sets.old ≤ sets_capacity sets.new }
-        ensures memory { size self.now ≤ sets_capacity sets.old → IsOk result }
-        ensures visits { visits.new ≤ visits.old + (length text.now + 2) * size self.now }
+        ensures memory { size self.now.nfa ≤ sets_capacity sets.old → IsOk result }
+        ensures visits { visits.new ≤ visits.old + (length text.now + 2) * size self.now.nfa }
         ensures counted { visits.old ≤ visits.new }
     {
         sets.reserve(self.automaton.state_count())?;
@@ -164,6 +202,20 @@ impl LazyDfa {
             visits,
         ))
     }
+}
+
+/// Returns what is run for an automaton, or `None` if twice as many indexes are too many for a `usize`. Texts that begin alike share
+/// states in it, if there is more than one start and that is not more states. Returns an error if memory runs out.
+fn early_match_of(alloc: Global, automaton: &Nfa) -> Result<Option<Nfa>, AllocError>
+    ensures { IfOk result (λ made. IfSome made (RunsFor automaton.now)) }
+{
+    // Only texts from two starts may begin alike.
+    if automaton.starts().len() > 1 {
+        if let Some(sharing) = shared(alloc, automaton)? {
+            return sharing.with_early_matches();
+        }
+    }
+    automaton.with_early_matches()
 }
 
 /// Returns whether a `u32` holds how many states an automaton has, and how many indexes.

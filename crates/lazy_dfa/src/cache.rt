@@ -1,36 +1,37 @@
 //! The memory of one thread, and what it answers.
 
 ghost use Rattle.std.specs.Prelude.{◌≡◌, ℕ, ◌+◌, ◌*◌, ◌≤◌, ◌⊎◌, ◌↔◌, ◌++◌, ◌∷◌, [], length, IsTrue, IfOk, IfSome, None};
+ghost use Rattle.std.specs.Arc.{arc_value};
 ghost use Rattle.bit_sets.specs.Indexes.{has_index, index_capacity};
 ghost use Rattle.byte_nfa.specs.Live.{MatchesAfter};
 ghost use Rattle.byte_nfa.specs.Runs.{size};
 ghost use Rattle.byte_nfa.specs.Steps.{NfaValue, IsReached};
-ghost use Rattle.lazy_dfa.specs.inner.Rows.{IsCacheOf};
+ghost use Rattle.lazy_dfa.specs.inner.Rows.{IsSound};
 
 use crate::automaton::{LazyDfa, fits_u32};
 use crate::rows::Rows;
 use bit_sets::{IndexSet, Visits};
 use std::alloc::{AllocError, Global};
 use std::marker::Model;
-use std::snapshot::Snapshot;
+use std::sync::Arc;
 
 /// The rows that the texts of one thread needed so far, in a memory of fixed size.
 ///
-/// A cache is made for one automaton. Contracts see it as the automaton that this was made from: what earlier calls left has no
-/// effect on an answer.
+/// A cache is made for one automaton, which it shares. Contracts see the automaton whose ends are found: what earlier calls left has
+/// no effect on an answer.
 #[derive(Drop)]
 pub struct Cache {
+    dfa: Arc<LazyDfa>,
     // In a box, since a cache is moved from call to call while a searcher is made.
     rows: Box<Rows>,
-    made_for: Snapshot<LazyDfa>,
 }
 
 impl Model for Cache {
     ghost Value = { NfaValue };
 
-    ghost view = { λ c. c.made_for.value };
+    ghost view = { λ c. (arc_value c.dfa).nfa };
 
-    ghost invariant = { λ c. IsCacheOf c.made_for.value c.rows.value };
+    ghost invariant = { λ c. IsSound (arc_value c.dfa).run c.rows.value };
 }
 
 impl Cache {
@@ -38,16 +39,31 @@ impl Cache {
     ///
     /// It takes so many bytes, and more only where few states would fit: there is always room for a row. All memory is taken
     /// here, and none by later calls. Returns an error if memory runs out, or if [`LazyDfa::may_have_rows`] returns `false`.
-    pub fn new(alloc: Global, dfa: &LazyDfa, bytes: usize) -> Result<Cache, AllocError>
-        ensures { IfOk result (λ cache. cache ≡ dfa.now) }
+    pub fn new(alloc: Global, dfa: &Arc<LazyDfa>, bytes: usize) -> Result<Cache, AllocError>
+        ensures { IfOk result (λ cache. cache ≡ (arc_value dfa.now).nfa) }
     {
-        if !fits_u32(&dfa.automaton) {
+        if !fits_u32(dfa.automaton()) {
             return Err(AllocError);
         }
-        let rows = Rows::new(alloc, &dfa.automaton, &dfa.classes, bytes)?;
+        let rows = Rows::new(alloc, dfa.automaton(), dfa.classes(), bytes)?;
         Ok(Cache {
+            dfa: Arc::try_clone(dfa)?,
             rows: Box::new(alloc, rows)?,
-            made_for: Snapshot::of(dfa),
+        })
+    }
+
+    /// Returns a cache with the rows that another one has, if they fit into so many bytes, and with none otherwise.
+    ///
+    /// What is said of [`Cache::new`] holds for it.
+    pub fn with_rows_of(alloc: Global, other: &Cache, bytes: usize) -> Result<Cache, AllocError>
+        ensures { IfOk result (λ cache. cache ≡ other.now) }
+    {
+        let dfa = &other.dfa;
+        let mut rows = Rows::new(alloc, dfa.automaton(), dfa.classes(), bytes)?;
+        rows.take_over(dfa.automaton(), &other.rows);
+        Ok(Cache {
+            dfa: Arc::try_clone(dfa)?,
+            rows: Box::new(alloc, rows)?,
         })
     }
 
@@ -61,22 +77,12 @@ impl Cache {
         self.rows.bytes()
     }
 
-    /// Takes over the rows that another cache has, if there is room for all of them. It takes no memory.
-    pub fn take_over(&mut self, dfa: &LazyDfa, other: &Cache)
-        requires same { dfa.now ≡ self.old }
-        requires other { other.now ≡ self.old }
-        ensures { self.new ≡ self.old }
-    {
-        self.rows.take_over(&dfa.automaton, &other.rows);
-    }
-
     /// Puts the index of each end that a text leads to into a set, beside what it holds.
     ///
     /// An entry that is there is one visit. Where there is none yet, each state of the automaton is read at most once, which is one
     /// visit, and a row is looked up, which is one more. So it is at most `(text bytes + 1) * (states + 1)` visits. It takes no
     /// memory: if there is no room for a row, all rows are forgotten, which is no visit.
-    pub fn find(&mut self, dfa: &LazyDfa, text: &[u8], found: &mut IndexSet, visits: &mut Visits)
-        requires same { dfa.now ≡ self.old }
+    pub fn find(&mut self, text: &[u8], found: &mut IndexSet, visits: &mut Visits)
         requires room { self.old.index_count ≤ index_capacity found.old }
         ensures same { self.new ≡ self.old }
         ensures room { index_capacity found.new ≡ index_capacity found.old }
@@ -86,20 +92,19 @@ impl Cache {
         ensures visits { visits.new ≤ visits.old + (length text.now + 1) * (size self.old + 1) }
         ensures counted { visits.old ≤ visits.new }
     {
+        let automaton = self.dfa.automaton();
         self.rows
-            .find(&dfa.automaton, &dfa.indexes, text, found, visits);
+            .find(automaton, self.dfa.indexes(), text, found, visits);
     }
 
     /// The same as [`Cache::find`] by entries that are there. Returns whether all that it needs are; if not, some of the indexes are
     /// put into the set. It is at most one visit for each byte and one more.
     pub fn find_known(
         &self,
-        dfa: &LazyDfa,
         text: &[u8],
         found: &mut IndexSet,
         visits: &mut Visits,
     ) -> bool
-        requires same { dfa.now ≡ self.now }
         requires room { self.now.index_count ≤ index_capacity found.old }
         ensures room { index_capacity found.new ≡ index_capacity found.old }
         ensures found { IsTrue result → (k : ℕ)
@@ -111,33 +116,34 @@ impl Cache {
         ensures visits { visits.new ≤ visits.old + (length text.now + 1) }
         ensures counted { visits.old ≤ visits.new }
     {
+        let automaton = self.dfa.automaton();
         self.rows
-            .find_known(&dfa.automaton, &dfa.indexes, text, found, visits)
+            .find_known(automaton, self.dfa.indexes(), text, found, visits)
     }
 
     /// Returns whether a text leads to some end. It stops at the first that is found whatever follows.
     ///
     /// It is as many visits as [`Cache::find`] makes, and takes no memory.
-    pub fn is_match(&mut self, dfa: &LazyDfa, text: &[u8], visits: &mut Visits) -> bool
-        requires { dfa.now ≡ self.old }
+    pub fn is_match(&mut self, text: &[u8], visits: &mut Visits) -> bool
         ensures same { self.new ≡ self.old }
         ensures some { IsTrue result ↔ ((k : ℕ) × IsReached self.old text.now k) }
         ensures visits { visits.new ≤ visits.old + (length text.now + 1) * (size self.old + 1) }
         ensures counted { visits.old ≤ visits.new }
     {
-        self.rows.is_match(&dfa.automaton, text, visits)
+        let automaton = self.dfa.automaton();
+        self.rows.is_match(automaton, text, visits)
     }
 
     /// The same as [`Cache::is_match`] by entries that are there. Returns `None` if one that it needs is not. It is at most one
     /// visit for each byte and one more.
-    pub fn is_match_known(&self, dfa: &LazyDfa, text: &[u8], visits: &mut Visits) -> Option<bool>
-        requires { dfa.now ≡ self.now }
+    pub fn is_match_known(&self, text: &[u8], visits: &mut Visits) -> Option<bool>
         ensures some { IfSome result
             (λ yes. IsTrue yes ↔ ((k : ℕ) × IsReached self.now text.now k)) }
         ensures visits { visits.new ≤ visits.old + (length text.now + 1) }
         ensures counted { visits.old ≤ visits.new }
     {
-        self.rows.is_match_known(&dfa.automaton, text, visits)
+        let automaton = self.dfa.automaton();
+        self.rows.is_match_known(automaton, text, visits)
     }
 
     /// Returns whether some text that begins with `text` and then `byte` leads to some end.
@@ -145,38 +151,36 @@ impl Cache {
     /// It is as many visits for each byte as [`Cache::find`] makes, and at most one more for each state. It takes no memory.
     pub fn can_match_after(
         &mut self,
-        dfa: &LazyDfa,
         text: &[u8],
         byte: u8,
         visits: &mut Visits,
     ) -> bool
-        requires { dfa.now ≡ self.old }
         ensures same { self.new ≡ self.old }
         ensures some { IsTrue result ↔ MatchesAfter self.old (text.now ++ byte ∷ []) }
         ensures visits { visits.new ≤ visits.old + (length text.now + 2) * (size self.old + 1) }
         ensures counted { visits.old ≤ visits.new }
     {
+        let automaton = self.dfa.automaton();
         self.rows
-            .can_match_after(&dfa.automaton, &dfa.live, text, byte, visits)
+            .can_match_after(automaton, self.dfa.live(), text, byte, visits)
     }
 
     /// The same as [`Cache::can_match_after`] by entries that are there. Returns `None` if one that it needs is not. It is at most one
     /// visit for each byte and one more, and one for each state.
     pub fn can_match_after_known(
         &self,
-        dfa: &LazyDfa,
         text: &[u8],
         byte: u8,
         visits: &mut Visits,
     ) -> Option<bool>
-        requires { dfa.now ≡ self.now }
         ensures some { IfSome result
             (λ yes. IsTrue yes ↔ MatchesAfter self.now (text.now ++ byte ∷ [])) }
         ensures missed { result ≡ None → visits.new ≤ visits.old + (length text.now + 1) }
         ensures visits { visits.new ≤ visits.old + (length text.now + 1) + size self.now }
         ensures counted { visits.old ≤ visits.new }
     {
+        let automaton = self.dfa.automaton();
         self.rows
-            .can_match_after_known(&dfa.automaton, &dfa.live, text, byte, visits)
+            .can_match_after_known(automaton, self.dfa.live(), text, byte, visits)
     }
 }

@@ -13,9 +13,9 @@ ghost use Rattle.set_matcher.specs.inner.Caches.{AreCachesOf, IsCacheAt};
 
 use crate::path_part::{Part, matches_part, run};
 use bit_sets::{IndexSet, Visits};
-use glob_matching::{Compiled, RowCache};
+use glob_matching::Compiled;
 use glob_path::PathParts;
-use lazy_dfa::StateSets;
+use lazy_dfa::{Cache, StateSets};
 use std::alloc::AllocError;
 use std::marker::Model;
 
@@ -24,8 +24,8 @@ use std::marker::Model;
 /// What they hold has no effect on an answer. They are for calls with the matcher that made them, or, if there are none, for
 /// calls with any.
 pub struct Caches {
-    pub(crate) by_path: Option<RowCache>,
-    pub(crate) by_component: Option<RowCache>,
+    pub(crate) by_path: Option<Cache>,
+    pub(crate) by_component: Option<Cache>,
     pub(crate) by_slot: SlotCaches,
 }
 
@@ -62,7 +62,7 @@ impl Caches {
 }
 
 /// Returns how many bytes the rows of a cache may take, or 0 if there is none.
-fn bytes_of(cache: &Option<RowCache>) -> usize {
+fn bytes_of(cache: &Option<Cache>) -> usize {
     match cache {
         Some(cache) => cache.bytes(),
         None => 0,
@@ -72,7 +72,7 @@ fn bytes_of(cache: &Option<RowCache>) -> usize {
 /// The rows of the automata of extensions, each at the slot of its automaton.
 pub(crate) struct SlotCaches {
     /// It is `None` if no automaton has rows.
-    caches: Option<Vec<Option<RowCache>>>,
+    caches: Option<Vec<Option<Cache>>>,
 }
 
 impl Drop for SlotCaches {
@@ -95,7 +95,7 @@ impl Model for SlotCaches {
 
 impl SlotCaches {
     /// Returns the caches of automata in the order of their slots.
-    pub fn of(caches: Vec<Option<RowCache>>) -> SlotCaches
+    pub fn of(caches: Vec<Option<Cache>>) -> SlotCaches
         ensures { result ≡ caches.items }
     {
         SlotCaches {

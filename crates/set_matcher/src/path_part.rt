@@ -10,9 +10,9 @@ ghost use Rattle.set_matcher.specs.inner.Automata.{before_extension};
 ghost use Rattle.set_matcher.specs.inner.PathPart.{part_of};
 
 use bit_sets::{IndexSet, Visits};
-use glob_matching::{Compiled, RowCache};
+use glob_matching::Compiled;
 use glob_path::PathParts;
-use lazy_dfa::StateSets;
+use lazy_dfa::{Cache, StateSets};
 use std::alloc::AllocError;
 
 /// A part of a path that an automaton is run on.
@@ -45,7 +45,7 @@ pub fn run(
     automaton: &Compiled,
     path: &PathParts<'_>,
     sets: &mut StateSets,
-    cache: &mut Option<RowCache>,
+    cache: &mut Option<Cache>,
     marks: &mut IndexSet,
     visits: &mut Visits,
 ) -> Result<(), AllocError>
@@ -75,7 +75,7 @@ pub fn matches_part(
     automaton: &Compiled,
     path: &PathParts<'_>,
     sets: &mut StateSets,
-    cache: &mut Option<RowCache>,
+    cache: &mut Option<Cache>,
     visits: &mut Visits,
 ) -> Result<bool, AllocError>
     requires bytes { AllBytes path.now }

@@ -2,30 +2,24 @@
 use denote.Param.Send.{IsSend, IsSync, sendable}
 use Rattle.std.proofs.Crossing.{crosses}
 use Rattle.boxcar.proofs.slot.OnceSlot.TheSendSync.{the_send, the_sync}
+use Rattle.lazy_dfa.proofs.lemmas.Shared.{cache-send, cache-sync}
 use Rattle.cache_pool.proofs.lemmas.Shared.{pool-send, pool-sync}
 use Rattle.glob_matching.specs.contracts.compiled.Compiled as Compiled
 use Rattle.glob_matching.specs.contracts.kept.KeptCaches as KeptCaches
 use Rattle.glob_matching.specs.contracts.published.Published as Published
-use Rattle.glob_matching.specs.contracts.row_cache.RowCache as RowCache
 use Rattle.glob_matching.specs.contracts.rows.RowSource as RowSource
 
-pub row_cache-send : IsSend RowCache.the_field.row
-row_cache-send = search (sendable, crosses) depth 40 fits 20000
-
-pub row_cache-sync : IsSync RowCache.the_field.row
-row_cache-sync = search (sendable, crosses) depth 40 fits 20000
-
 published-send : IsSend Published.the_field.row
-published-send = search (sendable, crosses, the_send, row_cache-send) depth 40 fits 20000
+published-send = search (sendable, crosses, the_send, cache-send) depth 40 fits 20000
 
 published-sync : IsSync Published.the_field.row
-published-sync = search (sendable, crosses, the_sync, row_cache-send, row_cache-sync) depth 40 fits 20000
+published-sync = search (sendable, crosses, the_sync, cache-send, cache-sync) depth 40 fits 20000
 
 kept-send : IsSend KeptCaches.the_field.row
-kept-send = search (sendable, crosses, pool-send, published-send, row_cache-send) depth 40 fits 20000
+kept-send = search (sendable, crosses, pool-send, published-send, cache-send) depth 40 fits 20000
 
 kept-sync : IsSync KeptCaches.the_field.row
-kept-sync = search (sendable, crosses, pool-sync, published-sync, row_cache-send, row_cache-sync) depth 40 fits 20000
+kept-sync = search (sendable, crosses, pool-sync, published-sync, cache-send, cache-sync) depth 40 fits 20000
 
 source-send : IsSend RowSource.the_field.row
 source-send = search (sendable, crosses, kept-send) depth 40 fits 20000

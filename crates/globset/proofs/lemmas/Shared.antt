@@ -3,7 +3,8 @@ use denote.Param.Send.{IsSend, IsSync, sendable}
 use Rattle.std.proofs.Crossing.{crosses}
 use Rattle.globset_glob.specs.contracts.glob.Glob as Glob
 use Rattle.globset_glob.specs.contracts.matcher.GlobMatcher as GlobMatcher
-use Rattle.glob_matching.proofs.lemmas.Shared.{compiled-send, compiled-sync, row_cache-send, row_cache-sync}
+use Rattle.glob_matching.proofs.lemmas.Shared.{compiled-send, compiled-sync}
+use Rattle.lazy_dfa.proofs.lemmas.Shared.{cache-send, cache-sync}
 use Rattle.set_matcher.proofs.lemmas.Shared.{matcher-send, matcher-sync}
 use Rattle.globset_glob.specs.contracts.matcher.searcher.MatcherSearcher as MatcherSearcher
 use Rattle.globset.specs.contracts.set.GlobSet as GlobSet
@@ -34,10 +35,10 @@ matcher_inside-sync : IsSync GlobMatcher.the_field.row
 matcher_inside-sync = search (sendable, crosses, glob-sync, compiled-send, compiled-sync) depth 40 fits 20000
 
 pub matcher_searcher-send : IsSend MatcherSearcher.the_row
-matcher_searcher-send = search (sendable, crosses, matcher_inside-send, compiled-send, compiled-sync, row_cache-send) depth 40 fits 20000
+matcher_searcher-send = search (sendable, crosses, matcher_inside-send, compiled-send, compiled-sync, cache-send) depth 40 fits 20000
 
 pub matcher_searcher-sync : IsSync MatcherSearcher.the_row
-matcher_searcher-sync = search (sendable, crosses, matcher_inside-sync, compiled-send, compiled-sync, row_cache-sync) depth 40 fits 20000
+matcher_searcher-sync = search (sendable, crosses, matcher_inside-sync, compiled-send, compiled-sync, cache-sync) depth 40 fits 20000
 
 set_inside-send : IsSend GlobSet.the_field.row
 set_inside-send = search (sendable, crosses, matcher-send, matcher-sync) depth 20
@@ -46,7 +47,7 @@ set_inside-sync : IsSync GlobSet.the_field.row
 set_inside-sync = search (sendable, crosses, matcher-send, matcher-sync) depth 20
 
 pub searcher-send : IsSend Searcher.the_row
-searcher-send = search (sendable, crosses, set_inside-send, matcher-send, matcher-sync, row_cache-send) depth 40 fits 20000
+searcher-send = search (sendable, crosses, set_inside-send, matcher-send, matcher-sync, cache-send) depth 40 fits 20000
 
 pub searcher-sync : IsSync Searcher.the_row
-searcher-sync = search (sendable, crosses, set_inside-sync, matcher-send, matcher-sync, row_cache-sync) depth 40 fits 20000
+searcher-sync = search (sendable, crosses, set_inside-sync, matcher-send, matcher-sync, cache-sync) depth 40 fits 20000

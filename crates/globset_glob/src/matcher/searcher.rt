@@ -9,10 +9,9 @@ ghost use Rattle.globset_glob.specs.GlobBelow.{GlobMatchesBelow};
 use crate::matcher::GlobMatcher;
 use crate::matcher::strategy::Strategy;
 use bit_sets::Visits;
-use glob_matching::RowCache;
 use glob_path::Candidate;
 use glob_text::Error;
-use lazy_dfa::StateSets;
+use lazy_dfa::{Cache, StateSets};
 use std::alloc::Global;
 use std::marker::Model;
 
@@ -39,7 +38,7 @@ pub struct MatcherSearcher {
     strategy: Strategy,
     sets: StateSets,
     /// `None` if a key decides, or the automaton has no rows.
-    cache: Option<RowCache>,
+    cache: Option<Cache>,
 }
 
 impl Model for MatcherSearcher {

@@ -9,11 +9,11 @@ ghost use Rattle.globset_glob.specs.inner.GlobNfa.{IsAutomatonOf, IsCacheOf, IsS
 
 use crate::glob::{Glob, options_of, tokens_of};
 use bit_sets::Visits;
-use glob_matching::{Compiled, DEFAULT_DFA_SIZE_LIMIT, RowCache};
+use glob_matching::{Compiled, DEFAULT_DFA_SIZE_LIMIT};
 use glob_nfa::{add_tokens, new_builder};
 use glob_path::{Candidate, Key};
 use glob_strategy::{MatchStrategy, strategy_of};
-use lazy_dfa::StateSets;
+use lazy_dfa::{Cache, StateSets};
 use std::alloc::{AllocError, Global};
 use std::sync::Arc;
 
@@ -71,7 +71,7 @@ impl Strategy {
 
     /// Returns a cache with no rows for an automaton, as [`Compiled::new_cache`] does, or `None` if a key decides. Returns an
     /// error if memory runs out.
-    pub fn new_cache(&self, alloc: Global) -> Result<Option<RowCache>, AllocError>
+    pub fn new_cache(&self, alloc: Global) -> Result<Option<Cache>, AllocError>
         ensures { IfOk result (λ made. IfSome made (IsCacheOf self.now)) }
     {
         match self {
@@ -86,7 +86,7 @@ impl Strategy {
         &self,
         path: &Candidate<'_>,
         sets: &mut StateSets,
-        cache: &mut Option<RowCache>,
+        cache: &mut Option<Cache>,
         visits: &mut Visits,
     ) -> Result<bool, AllocError>
         requires { IfSome cache.old (IsCacheOf self.now) }
@@ -118,7 +118,7 @@ impl Strategy {
         &self,
         folder: &Candidate<'_>,
         sets: &mut StateSets,
-        cache: &mut Option<RowCache>,
+        cache: &mut Option<Cache>,
         visits: &mut Visits,
     ) -> Result<bool, AllocError>
         requires { IfSome cache.old (IsCacheOf self.now) }

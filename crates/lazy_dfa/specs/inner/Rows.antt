@@ -172,10 +172,6 @@ pub record HasSpace (m : NfaValue) (rows : Rows) : Type 0 where
   pub small : length rows.entries.items + rows.class_count < max_entries
   pub entries : length rows.entries.items + rows.class_count < vec_capacity rows.entries
 
--- the rows are those of an automaton with an end in place of each state of the source that decides an index
-abbrev pub IsCacheOf : NfaValue → Rows → Type 0
-IsCacheOf source rows = (m : NfaValue) × EndsAtEarlyMatches source m × IsSound m rows
-
 -- a text leads to an end of the index k, or its beginning to the end that says that k is decided
 abbrev pub FindsBy : ℕ → (List ℕ → ℕ → Type 0) → List ℕ → ℕ → Type 0
 FindsBy n P y k = (k < n) × (P y k ⊎ ((p : List ℕ) × (q : List ℕ) × (y ≡ p ++ q) × P p (n + k)))

@@ -9,6 +9,7 @@ use Rattle.byte_nfa.specs.Runs.{size}
 use Rattle.bit_sets.specs.StateSets.{state_capacity}
 use Rattle.bit_sets.specs.declared.state_set.StateSet.{StateSet}
 use Rattle.byte_nfa.specs.EarlyMatches.{EndsAtEarlyMatches}
+use Rattle.nfa_sharing.specs.Sharing.{Shares}
 use Rattle.lazy_dfa.specs.declared.classes.ByteClasses.{ByteClasses}
 use Rattle.lazy_dfa.specs.inner.Classes.{AreEquivalenceClasses}
 
@@ -29,12 +30,18 @@ ListsEnds m list = (s k : ℕ) → s < size m → k < half m → (state m.states
 abbrev pub AreFound : List ℕ → ℕ → IndexSet → Type 0
 AreFound indexes count found = (j : ℕ) → j < count → j < length indexes → IsTrue (has_index found (slice_index indexes j))
 
--- the source with an end in place of each state that decides an index, and of that the classes of bytes, and the states from which some
--- bytes lead to an end
-pub record IsMadeOf (source automaton : NfaValue) (classes : ByteClasses) (leading : StateSet) (indexes : List ℕ) : Type 0 where
-  pub early : EndsAtEarlyMatches source automaton
+-- the automaton that is run has an end in place of each state that decides an index of another one, which is the source, or leads to the
+-- same ends and has no more states and no more starts
+pub record RunsFor (source run : NfaValue) : Type 0 where
+  pub sharing : NfaValue
+  pub shares : Shares source sharing
+  pub early : EndsAtEarlyMatches sharing run
+
+-- what is run for the source, and of that the classes of bytes, the states from which some bytes lead to an end, and the indexes
+pub record IsMadeOf (source automaton : NfaValue) (classes : ByteClasses) (leads : StateSet) (indexes : List ℕ) : Type 0 where
+  pub runs : RunsFor source automaton
   pub few : classes.count ≤ 256
   pub equivalence : AreEquivalenceClasses automaton.states classes.class_of classes.representatives classes.count
-  pub live : AreLive automaton leading
-  pub room : size automaton ≤ state_capacity leading
+  pub live : AreLive automaton leads
+  pub room : size automaton ≤ state_capacity leads
   pub listed : ListsEnds automaton indexes

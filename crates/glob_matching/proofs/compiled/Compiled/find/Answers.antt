@@ -1,13 +1,12 @@
-use Rattle.std.proofs.Common.{◌≡◌, ◌+◌, ◌*◌, ◌≤◌, ◌∙◌, length, arith, sym, subst}
+use Rattle.std.proofs.Common.{◌≡◌, ◌+◌, ◌*◌, ◌≤◌, ◌∙◌, length, ap, arith, sym, subst}
 use Rattle.std.specs.Prelude.{Option, IfSome}
 use Rattle.bit_sets.specs.declared.index_set.IndexSet.{IndexSet}
 use Rattle.byte_nfa.specs.Runs.{size}
 use Rattle.byte_nfa.specs.Steps.{NfaValue}
-use Rattle.std.specs.Arc.{arc_value}
-use Rattle.nfa_sharing.specs.Sharing.{Shares}
+use Rattle.lazy_dfa.specs.LazyDfaValue.{LazyDfaValue}
 use Rattle.glob_matching.specs.inner.Found.{AddsReached, AddsSome}
 use Rattle.glob_matching.proofs.lemmas.Compiled.{adds_matches, on_ok}
-use Rattle.glob_matching.proofs.lemmas.Rows.{adds_nothing, adds_rest, found_by, none_added, stepped_within}
+use Rattle.glob_matching.proofs.lemmas.Rows.{adds_nothing, adds_rest, none_added, stepped_within}
 use Rattle.glob_matching.proofs.compiled.Compiled.find.Goals as goal
 use Rattle.glob_matching.proofs.compiled.Compiled.find.Goals.{in-Some+else-find, in_default}
 
@@ -28,7 +27,7 @@ returns-clause-found c =
     let m = c.args.self.now in
     let text = c.args.text.now in
     let before = c.args.found.now in
-    let shares : Shares m c.deref.result.now = subst (Shares m) (sym c.deref.ensures) (subst (λ (x : NfaValue). Shares x (arc_value c.self.inside.dfa)) c.self.view_is c.self.invariant.0) in
+    let is : c.deref.result.now.nfa ≡ m = ap (λ (v : LazyDfaValue). v.nfa) c.deref.ensures ∙ c.self.invariant.0 ∙ c.self.view_is in
     let some : AddsSome m text before c.match-self.found = elim c.match-self.branch [
       | in-Some+else-find w ↦
           let made_for : w.in-Some.rows ≡ m = subst (λ (o : Option NfaValue). IfSome o (λ r. r ≡ c.self.inside.source)) w.in-Some.is c.self.invariant.1 ∙ c.self.view_is in
@@ -36,16 +35,16 @@ returns-clause-found c =
       | in_default w ↦ subst (λ (x : IndexSet). AddsSome m text before x) (sym w.found-is) (adds_nothing m text before)
     ] in
     on_ok c.find-2.result (λ found. adds_matches m text before c.find-2.new.found (λ i. omega (arith, c.type_inv.text i))
-    (adds_rest m text before c.match-self.found c.find-2.new.found some (λ k. found_by m c.deref.result.now shares text k (found k)))) c.find-2.ensures.found
+    (adds_rest m text before c.match-self.found c.find-2.new.found some (subst (λ (x : NfaValue). AddsReached x text c.match-self.found c.find-2.new.found) is found))) c.find-2.ensures.found
 
 pub returns-clause-visits : goal.returns-clause-visits
 returns-clause-visits c =
     let m = c.args.self.now in
-    let shares : Shares m c.deref.result.now = subst (Shares m) (sym c.deref.ensures) (subst (λ (x : NfaValue). Shares x (arc_value c.self.inside.dfa)) c.self.view_is c.self.invariant.0) in
+    let is : c.deref.result.now.nfa ≡ m = ap (λ (v : LazyDfaValue). v.nfa) c.deref.ensures ∙ c.self.invariant.0 ∙ c.self.view_is in
     let positions = length c.args.text.now + 1 in
     let looks : c.match-self.visits ≤ c.args.visits.now + 2 * positions = elim c.match-self.branch [
       | in-Some+else-find w ↦ omega (arith, w.visits-is, w.find.ensures.missed w.if-find.false, c.leads_to_none.ensures.visits)
       | in_default w ↦ omega (arith, w.visits-is, c.leads_to_none.ensures.visits)
     ] in
-    stepped_within positions c.args.visits.now c.match-self.visits c.find-2.new.visits (size c.deref.result.now) (size m) (length m.starts) looks c.find-2.ensures.visits shares.states
+    stepped_within positions c.args.visits.now c.match-self.visits c.find-2.new.visits (size m) (length m.starts) looks (subst (λ (x : NfaValue). c.find-2.new.visits ≤ c.match-self.visits + positions * size x) is c.find-2.ensures.visits)
     (c.leads_to_none.ensures.starts c.if-leads_to_none.false)

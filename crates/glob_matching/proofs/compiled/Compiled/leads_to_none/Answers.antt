@@ -1,14 +1,13 @@
-use Rattle.std.proofs.Common.{◌∙◌, sym, subst}
+use Rattle.std.proofs.Common.{ℕ, List, ◌≡◌, ◌∙◌, ap, sym, subst}
 use Rattle.byte_nfa.specs.Steps.{NfaValue, IsReached}
-use Rattle.std.specs.Arc.{arc_value}
-use Rattle.nfa_sharing.specs.Sharing.{Shares}
-use Rattle.glob_matching.proofs.lemmas.Rows.{none_by}
+use Rattle.lazy_dfa.specs.LazyDfaValue.{LazyDfaValue}
 use Rattle.glob_matching.proofs.compiled.Compiled.leads_to_none.Goals as goal
 
-pub returns-then-start_count-eq0-clause-none : goal.returns-then-start_count-eq0-clause-none
-returns-then-start_count-eq0-clause-none c = λ _ k reached.
-    let shares : Shares c.args.self.now c.deref.result.now = subst (Shares c.args.self.now) (sym c.deref.ensures) (subst (λ (x : NfaValue). Shares x (arc_value c.self.inside.dfa)) c.self.view_is c.self.invariant.0) in
-    none_by c.args.self.now c.deref.result.now shares c.args.text.now (sym c.start_count.ensures ∙ c.if-start_count-eq0.true) k reached
+pub returns-then-not-has_starts-clause-none : goal.returns-then-not-has_starts-clause-none
+returns-then-not-has_starts-clause-none c = λ _ k reached.
+    let m = c.args.self.now in
+    let is : c.deref.result.now.nfa ≡ m = ap (λ (v : LazyDfaValue). v.nfa) c.deref.ensures ∙ c.self.invariant.0 ∙ c.self.view_is in
+    (subst (λ (x : NfaValue). (y : List ℕ) (k : ℕ) → IsReached x y k → ⊥) is (c.has_starts.ensures.none c.if-not-has_starts.true)) c.args.text.now k reached
 
 pub returns-clause-none : goal.returns-clause-none
 returns-clause-none c = λ yes k reached.

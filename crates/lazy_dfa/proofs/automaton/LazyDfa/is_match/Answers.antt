@@ -4,16 +4,17 @@ use Rattle.byte_nfa.specs.Runs.{AcceptsFrom}
 use Rattle.byte_nfa.specs.Steps.{IsReached}
 use Rattle.byte_nfa.proofs.lemmas.Pass.{iff_trans}
 use Rattle.lazy_dfa.specs.inner.Sources.{half}
-use Rattle.lazy_dfa.proofs.lemmas.Finding.{finds_same, some_same, found_is}
+use Rattle.lazy_dfa.proofs.lemmas.Finding.{finds_same, some_same}
+use Rattle.lazy_dfa.proofs.lemmas.Running.{found_for}
 use Rattle.lazy_dfa.proofs.automaton.LazyDfa.is_match.Goals as goal
 
 pub returns-clause-some : goal.returns-clause-some
 returns-clause-some c =
     let m = c.self.inside.automaton in
     let source = c.self.inside.source.value in
-    let early = c.self.invariant.early in
+    let runs = c.self.invariant.runs in
     let text = c.args.text.now in
     let bytes = all_bytes text (λ j. (c.type_inv.text j).fits) in
-    let is : source ≡ c.args.self.now = cc in
+    let is : source ≡ c.args.self.now.nfa = cc in
     let begins = c.start.ensures.starts in
-    rw (sym is) (iff_trans c.is_match.ensures.some (some_same (λ k. iff_trans (finds_same (half m) (AcceptsFrom m c.start.new.into) (IsReached m) begins text k) (found_is source m early text bytes k))))
+    rw (sym is) (iff_trans c.is_match.ensures.some (some_same (λ k. iff_trans (finds_same (half m) (AcceptsFrom m c.start.new.into) (IsReached m) begins text k) (found_for source m runs text bytes k))))

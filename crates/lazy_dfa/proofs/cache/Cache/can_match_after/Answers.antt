@@ -1,25 +1,16 @@
-use Rattle.std.proofs.Common.{◌≡◌, sym, subst}
+use Rattle.std.proofs.Common.{◌≡◌, subst}
 use Rattle.bit_sets.proofs.lemmas.Texts.{all_bytes}
-use Rattle.byte_nfa.specs.EarlyMatches.{EndsAtEarlyMatches}
 use Rattle.byte_nfa.proofs.lemmas.Pass.{iff_trans}
-use Rattle.lazy_dfa.specs.inner.Rows.{IsSound}
-use Rattle.lazy_dfa.proofs.lemmas.After.{after_is}
-use Rattle.lazy_dfa.proofs.lemmas.Unique.{one_automaton}
+use Rattle.byte_nfa.specs.Steps.{NfaValue}
+use Rattle.lazy_dfa.specs.inner.Sources.{RunsFor}
+use Rattle.lazy_dfa.proofs.lemmas.Running.{after_for}
 use Rattle.lazy_dfa.proofs.cache.Cache.can_match_after.Goals as goal
-
-pub can_match_after-requires-clause-sound : goal.can_match_after-requires-clause-sound
-can_match_after-requires-clause-sound c =
-    let (m, early, sound) = c.self.invariant in
-    let source : c.self.inside.made_for.value ≡ c.dfa.inside.source.value = cc in
-    let same : m ≡ c.dfa.inside.automaton = one_automaton c.dfa.inside.source.value m c.dfa.inside.automaton (subst (λ s. EndsAtEarlyMatches s m) source early) c.dfa.invariant.early in
-    subst (λ a. IsSound a c.deref_mut.result.now) same (subst (IsSound m) (sym c.deref_mut.ensures.value) sound)
-
-pub can_match_after-requires-clause-early : goal.can_match_after-requires-clause-early
-can_match_after-requires-clause-early c = (c.dfa.inside.source.value, c.dfa.invariant.early)
 
 pub returns-clause-some : goal.returns-clause-some
 returns-clause-some c =
     let text = c.args.text.now in
     let bytes = all_bytes text (λ j. (c.type_inv.text j).fits) in
-    let is : c.dfa.inside.source.value ≡ c.args.self.now = cc in
-    rw (sym is) (iff_trans c.can_match_after.ensures.some (after_is c.dfa.inside.source.value c.dfa.inside.automaton c.dfa.invariant.early text c.args.byte bytes c.ranges.byte.fits))
+    let m = c.automaton-automaton.result.now in
+    let is : c.deref.result.now.nfa ≡ c.args.self.now = cc in
+    let runs = subst (λ (x : NfaValue). RunsFor x m) is c.automaton-automaton.ensures.runs in
+    iff_trans c.can_match_after.ensures.some (after_for c.args.self.now m runs text c.args.byte bytes c.ranges.byte.fits)

@@ -1,29 +1,26 @@
-use Rattle.std.proofs.Common.{◌≡◌, sym, subst}
+use Rattle.std.proofs.Common.{◌≡◌, subst}
 use Rattle.bit_sets.proofs.lemmas.Texts.{all_bytes}
-use Rattle.byte_nfa.specs.EarlyMatches.{EndsAtEarlyMatches}
 use Rattle.byte_nfa.proofs.lemmas.Pass.{iff_trans}
-use Rattle.lazy_dfa.specs.inner.Rows.{IsSound}
-use Rattle.lazy_dfa.proofs.lemmas.Finding.{iff_beside, found_is}
-use Rattle.lazy_dfa.proofs.lemmas.Unique.{one_automaton}
+use Rattle.lazy_dfa.proofs.lemmas.Finding.{iff_beside}
+use Rattle.byte_nfa.specs.Steps.{NfaValue}
+use Rattle.lazy_dfa.specs.inner.Sources.{RunsFor}
+use Rattle.lazy_dfa.proofs.lemmas.Running.{found_for}
 use Rattle.lazy_dfa.proofs.cache.Cache.find_known.Goals as goal
 
-pub find_known-requires-clause-sound : goal.find_known-requires-clause-sound
-find_known-requires-clause-sound c =
-    let (m, early, sound) = c.self.invariant in
-    let source : c.self.inside.made_for.value ≡ c.dfa.inside.source.value = cc in
-    let same : m ≡ c.dfa.inside.automaton = one_automaton c.dfa.inside.source.value m c.dfa.inside.automaton (subst (λ s. EndsAtEarlyMatches s m) source early) c.dfa.invariant.early in
-    subst (λ a. IsSound a c.deref.result.now) same (subst (IsSound m) (sym c.deref.ensures) sound)
-
 pub returns-clause-found : goal.returns-clause-found
-returns-clause-found c = λ on k.
+returns-clause-found c = λ all k.
     let text = c.args.text.now in
     let bytes = all_bytes text (λ j. (c.type_inv.text j).fits) in
-    let is : c.dfa.inside.source.value ≡ c.args.self.now = cc in
-    rw (sym is) (iff_trans (c.find_known.ensures.found on k) (iff_beside (found_is c.dfa.inside.source.value c.dfa.inside.automaton c.dfa.invariant.early text bytes k)))
+    let m = c.automaton-automaton.result.now in
+    let is : c.deref.result.now.nfa ≡ c.args.self.now = cc in
+    let runs = subst (λ (x : NfaValue). RunsFor x m) is c.automaton-automaton.ensures.runs in
+    iff_trans (c.find_known.ensures.found all k) (iff_beside (found_for c.args.self.now m runs text bytes k))
 
 pub returns-clause-sound : goal.returns-clause-sound
 returns-clause-sound c = λ k h.
     let text = c.args.text.now in
     let bytes = all_bytes text (λ j. (c.type_inv.text j).fits) in
-    let is : c.dfa.inside.source.value ≡ c.args.self.now = cc in
-    rw (sym is) ((iff_beside (found_is c.dfa.inside.source.value c.dfa.inside.automaton c.dfa.invariant.early text bytes k)).0 (c.find_known.ensures.some.sound k h))
+    let m = c.automaton-automaton.result.now in
+    let is : c.deref.result.now.nfa ≡ c.args.self.now = cc in
+    let runs = subst (λ (x : NfaValue). RunsFor x m) is c.automaton-automaton.ensures.runs in
+    (iff_beside (found_for c.args.self.now m runs text bytes k)).0 (c.find_known.ensures.some.sound k h)
