@@ -6,7 +6,7 @@ ghost use Rattle.byte_nfa.specs.Steps.{IsReached};
 ghost use Rattle.bit_sets.specs.Indexes.{index_capacity};
 ghost use Rattle.nfa_sharing.specs.Sharing.{Shares};
 ghost use Rattle.lazy_dfa.specs.Sets.{sets_capacity};
-ghost use Rattle.glob_nfa.specs.IndexedTokens.{IndexedTokens, IsFor, SomeMeanAfter};
+ghost use Rattle.glob_strategy.specs.IndexedTokens.{IndexedTokens, IsFor, SomeMeanAfter};
 ghost use Rattle.glob_matching.specs.Matching.{AddsMatches, TellsMatch};
 
 use crate::row_cache::RowCache;
