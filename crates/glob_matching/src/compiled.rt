@@ -4,7 +4,7 @@ ghost use Rattle.std.specs.Prelude.{◌≡◌, ℕ, ◌+◌, ◌*◌, ◌≤◌,
 ghost use Rattle.byte_nfa.specs.Runs.{size, max_reads};
 ghost use Rattle.byte_nfa.specs.Steps.{IsReached};
 ghost use Rattle.bit_sets.specs.Indexes.{index_capacity};
-ghost use Rattle.nfa_sharing.specs.Sharing.{Shares};
+ghost use Rattle.byte_nfa.specs.Sharing.{Shares};
 ghost use Rattle.lazy_dfa.specs.Sets.{sets_capacity};
 ghost use Rattle.glob_strategy.specs.IndexedTokens.{IndexedTokens, IsFor, SomeMeanAfter};
 ghost use Rattle.glob_matching.specs.Matching.{AddsMatches, TellsMatch};
@@ -13,9 +13,8 @@ use crate::row_cache::RowCache;
 use crate::rows::RowSource;
 use crate::source::Source;
 use bit_sets::{IndexSet, Visits};
-use byte_nfa::Nfa;
+use byte_nfa::{Nfa, shared};
 use lazy_dfa::{LazyDfa, StateSets};
-use nfa_sharing::shared;
 use std::alloc::{AllocError, Global};
 use std::marker::Model;
 use std::sync::Arc;
@@ -37,7 +36,7 @@ impl Model for Compiled {
     ghost use Rattle.std.specs.Arc.{arc_value};
     ghost use Rattle.std.specs.Prelude.{◌≡◌, IfSome};
     ghost use Rattle.byte_nfa.specs.Steps.{NfaValue};
-    ghost use Rattle.nfa_sharing.specs.Sharing.{Shares};
+    ghost use Rattle.byte_nfa.specs.Sharing.{Shares};
 
     ghost Value = { NfaValue };
 

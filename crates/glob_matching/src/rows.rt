@@ -6,7 +6,7 @@ ghost use Rattle.bit_sets.specs.Indexes.{index_capacity};
 ghost use Rattle.byte_nfa.specs.Live.{MatchesAfter};
 ghost use Rattle.byte_nfa.specs.Runs.{size};
 ghost use Rattle.byte_nfa.specs.Steps.{IsReached};
-ghost use Rattle.nfa_sharing.specs.Sharing.{Shares};
+ghost use Rattle.byte_nfa.specs.Sharing.{Shares};
 ghost use Rattle.glob_matching.specs.inner.Found.{AddsReached, AddsSome};
 
 use crate::kept::{Kept, KeptCaches, MOST_KEPT};
@@ -37,7 +37,7 @@ impl Model for RowSource {
     ghost use Rattle.std.specs.Arc.{arc_value};
     ghost use Rattle.std.specs.Prelude.{◌≡◌};
     ghost use Rattle.byte_nfa.specs.Steps.{NfaValue};
-    ghost use Rattle.nfa_sharing.specs.Sharing.{Shares};
+    ghost use Rattle.byte_nfa.specs.Sharing.{Shares};
 
     ghost Value = { NfaValue };
 

@@ -7,7 +7,7 @@ use Rattle.bit_sets.specs.Indexes.{has_index}
 use Rattle.bit_sets.specs.declared.index_set.IndexSet.{IndexSet}
 use Rattle.byte_nfa.specs.Live.{MatchesAfter}
 use Rattle.byte_nfa.specs.Steps.{NfaValue, HasNumber, IsReached}
-use Rattle.nfa_sharing.specs.Sharing.{Shares}
+use Rattle.byte_nfa.specs.Sharing.{Shares}
 use Rattle.glob_matching.specs.inner.Found.{AddsReached, AddsSome}
 
 module _ (m sharing : NfaValue) (shares : Shares m sharing) (y : List ℕ) where

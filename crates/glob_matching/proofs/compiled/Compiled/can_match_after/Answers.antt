@@ -4,7 +4,7 @@ use Rattle.std.proofs.Common.{ap, ◌≡◌, ◌++◌, ◌∷◌, [], ◌+◌, �
 use Rattle.byte_nfa.specs.Runs.{size}
 use Rattle.byte_nfa.specs.Steps.{NfaValue}
 use Rattle.std.specs.Arc.{arc_value}
-use Rattle.nfa_sharing.specs.Sharing.{Shares}
+use Rattle.byte_nfa.specs.Sharing.{Shares}
 use Rattle.glob_matching.proofs.lemmas.Compiled.{after_matches, if_ok}
 use Rattle.glob_matching.proofs.lemmas.Rows.{after_by, never_after, some_start, stepped_within}
 use Rattle.glob_matching.proofs.compiled.Compiled.can_match_after.Goals as goal

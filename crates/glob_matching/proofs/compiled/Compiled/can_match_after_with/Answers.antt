@@ -3,7 +3,7 @@ use Rattle.byte_nfa.specs.Live.{MatchesAfter}
 use Rattle.std.proofs.Common.{arith, ◌≡◌, ◌++◌, ◌∷◌, [], ◌∙◌, sym, subst}
 use Rattle.byte_nfa.specs.Steps.{NfaValue}
 use Rattle.std.specs.Arc.{arc_value}
-use Rattle.nfa_sharing.specs.Sharing.{Shares}
+use Rattle.byte_nfa.specs.Sharing.{Shares}
 use Rattle.glob_matching.proofs.lemmas.Compiled.{after_matches}
 use Rattle.glob_matching.proofs.lemmas.Rows.{never_after}
 use Rattle.glob_matching.proofs.compiled.Compiled.can_match_after_with.Goals as goal

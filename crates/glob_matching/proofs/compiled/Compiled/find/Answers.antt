@@ -4,7 +4,7 @@ use Rattle.bit_sets.specs.declared.index_set.IndexSet.{IndexSet}
 use Rattle.byte_nfa.specs.Runs.{size}
 use Rattle.byte_nfa.specs.Steps.{NfaValue}
 use Rattle.std.specs.Arc.{arc_value}
-use Rattle.nfa_sharing.specs.Sharing.{Shares}
+use Rattle.byte_nfa.specs.Sharing.{Shares}
 use Rattle.glob_matching.specs.inner.Found.{AddsReached, AddsSome}
 use Rattle.glob_matching.proofs.lemmas.Compiled.{adds_matches, on_ok}
 use Rattle.glob_matching.proofs.lemmas.Rows.{adds_nothing, adds_rest, found_by, none_added, stepped_within}

@@ -3,7 +3,7 @@ use Rattle.std.proofs.Common.{sym, ℕ, ◌≡◌, ◌∙◌, false, ◌+◌, �
 use Rattle.byte_nfa.specs.Runs.{size}
 use Rattle.byte_nfa.specs.Steps.{NfaValue, IsReached}
 use Rattle.std.specs.Arc.{arc_value}
-use Rattle.nfa_sharing.specs.Sharing.{Shares}
+use Rattle.byte_nfa.specs.Sharing.{Shares}
 use Rattle.glob_matching.proofs.lemmas.Compiled.{if_ok, tells_match}
 use Rattle.glob_matching.proofs.lemmas.Rows.{none_matches, some_by, stepped_within}
 use Rattle.glob_matching.proofs.compiled.Compiled.is_match.Goals as goal

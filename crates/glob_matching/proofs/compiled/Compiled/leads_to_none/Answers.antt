@@ -1,7 +1,7 @@
 use Rattle.std.proofs.Common.{◌∙◌, sym, subst}
 use Rattle.byte_nfa.specs.Steps.{NfaValue, IsReached}
 use Rattle.std.specs.Arc.{arc_value}
-use Rattle.nfa_sharing.specs.Sharing.{Shares}
+use Rattle.byte_nfa.specs.Sharing.{Shares}
 use Rattle.glob_matching.proofs.lemmas.Rows.{none_by}
 use Rattle.glob_matching.proofs.compiled.Compiled.leads_to_none.Goals as goal
 

@@ -1,6 +1,6 @@
 use Rattle.std.proofs.Common.{subst}
 use Rattle.byte_nfa.specs.Steps.{NfaValue}
-use Rattle.nfa_sharing.specs.Sharing.{Shares}
+use Rattle.byte_nfa.specs.Sharing.{Shares}
 use Rattle.glob_matching.proofs.lemmas.Compiled.{if_some}
 use Rattle.glob_matching.proofs.lemmas.Rows.{after_by}
 use Rattle.glob_matching.proofs.row_cache.RowCache.can_match_after_known.Goals as goal

@@ -1,6 +1,6 @@
 use Rattle.std.proofs.Common.{subst}
 use Rattle.byte_nfa.specs.Steps.{NfaValue}
-use Rattle.nfa_sharing.specs.Sharing.{Shares}
+use Rattle.byte_nfa.specs.Sharing.{Shares}
 use Rattle.glob_matching.proofs.lemmas.Rows.{found_by, some_added_by}
 use Rattle.glob_matching.proofs.row_cache.RowCache.find_known.Goals as goal
 
