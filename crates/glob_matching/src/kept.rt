@@ -2,11 +2,11 @@
 
 ghost use Rattle.std.specs.Prelude.{◌≡◌, IfSome};
 
+use crate::pool::Pool;
 use crate::published::Published;
 use crate::row_cache::RowCache;
 use crate::rows::FEWEST_BYTES;
 use byte_nfa::Nfa;
-use cache_pool::Pool;
 use counted_slot::Fits;
 use std::marker::Model;
 use std::sync::atomic::{AtomicUsize, Ordering};

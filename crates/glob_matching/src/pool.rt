@@ -1,9 +1,14 @@
-//! Values that are taken out and given back.
+//! Values that are kept for later calls through a shared reference. No call waits.
+//!
+//! A [`Pool`] has room for a few: a call takes one out, uses it alone, and gives it back.
 
 ghost use Rattle.std.specs.Prelude.{◌≡◌, IfSome};
 
 use counted_slot::{Counted, FREE, Fits, PRESENT, TAKEN};
 use std::marker::Model;
+
+#[cfg(test)]
+mod tests;
 
 /// Bytes between two slots, so that no two of them share a line of the processor's cache.
 type Apart = [u64; 14];

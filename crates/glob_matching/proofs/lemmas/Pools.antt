@@ -2,7 +2,7 @@
 use denote.RattleType.{RattleType}
 use denote.Param.Send.{IsSend, IsSync, sendable}
 use Rattle.std.proofs.Crossing.{crosses}
-use Rattle.cache_pool.specs.contracts.pool.Pool as Pool
+use Rattle.glob_matching.specs.contracts.pool.Pool as Pool
 use Rattle.counted_slot.proofs.Counted.TheSendSync.{the_send, the_sync}
 use Rattle.counted_slot.specs.declared.Fits.{Ghosts}
 
