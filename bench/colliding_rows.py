@@ -1,7 +1,7 @@
 """Globs, and letters for paths, such that the rows of a searcher's cache are looked for at one place of its table.
 
 A row is found by the hash of the list of its states (`lazy_dfa`). The hasher is that of `colliding_keys`, so whoever chooses globs and
-paths can choose the hashes, but for the seeds that follow when rows are forgotten. What is said here of states and of places is what `glob_nfa`, `nfa_sharing` and `lazy_dfa` make.
+paths can choose the hashes, but for the seeds that follow when rows are forgotten. What is said here of states and of places is what `glob_strategy`, `byte_nfa` and `lazy_dfa` make.
 """
 
 import functools

@@ -8,3 +8,6 @@ pub mod Accepting
 pub mod Live
 pub mod LastBytes
 pub mod Loops
+pub mod Lists
+pub mod Chunks
+pub mod Known

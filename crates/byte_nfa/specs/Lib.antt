@@ -5,4 +5,5 @@ pub mod Reading
 pub mod Live
 pub mod Equivalent
 pub mod EarlyMatches
+pub mod Sharing
 pub mod inner

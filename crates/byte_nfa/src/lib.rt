@@ -7,7 +7,9 @@
 
 mod builder;
 mod nfa;
+mod sharing;
 mod state;
 
 pub use builder::Builder;
 pub use nfa::{Nfa, StateRef};
+pub use sharing::shared;

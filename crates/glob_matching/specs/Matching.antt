@@ -3,7 +3,7 @@ use Rattle.std.specs.Prelude.{ℕ, Bool, ◌⊎◌, ◌↔◌, List, IsTrue}
 use Rattle.bit_sets.specs.Indexes.{has_index}
 use Rattle.bit_sets.specs.declared.index_set.IndexSet.{IndexSet}
 use Rattle.byte_nfa.specs.Steps.{NfaValue}
-use Rattle.glob_nfa.specs.IndexedTokens.{IndexedTokens, IsFor, SomeMatches}
+use Rattle.glob_strategy.specs.IndexedTokens.{IndexedTokens, IsFor, SomeMatches}
 
 -- the set has afterwards the indexes of the tokens that match the text, beside what it had before
 abbrev pub AddsMatches : NfaValue → List ℕ → IndexSet → IndexSet → Type 0

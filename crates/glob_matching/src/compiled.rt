@@ -5,7 +5,7 @@ ghost use Rattle.byte_nfa.specs.Runs.{size, max_reads};
 ghost use Rattle.byte_nfa.specs.Steps.{IsReached};
 ghost use Rattle.bit_sets.specs.Indexes.{index_capacity};
 ghost use Rattle.lazy_dfa.specs.Sets.{sets_capacity};
-ghost use Rattle.glob_nfa.specs.IndexedTokens.{IndexedTokens, IsFor, SomeMeanAfter};
+ghost use Rattle.glob_strategy.specs.IndexedTokens.{IndexedTokens, IsFor, SomeMeanAfter};
 ghost use Rattle.glob_matching.specs.Matching.{AddsMatches, TellsMatch};
 
 use crate::rows::RowSource;

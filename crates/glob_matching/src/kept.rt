@@ -2,12 +2,12 @@
 
 ghost use Rattle.std.specs.Prelude.{◌≡◌, IfSome};
 
+use crate::pool::Pool;
 use crate::published::Published;
 use crate::rows::FEWEST_BYTES;
 use byte_nfa::Nfa;
-use lazy_dfa::Cache;
-use cache_pool::Pool;
 use counted_slot::Fits;
+use lazy_dfa::Cache;
 use std::marker::Model;
 use std::sync::atomic::{AtomicUsize, Ordering};
 

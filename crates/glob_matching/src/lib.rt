@@ -7,6 +7,7 @@
 
 mod compiled;
 mod kept;
+mod pool;
 mod published;
 mod rows;
 mod scratch;

@@ -2,7 +2,7 @@
 use Rattle.std.specs.Prelude.{ℕ, Bool, List, [], ◌∷◌, IsTrue, IsFalse}
 use Rattle.std.specs.List.{list_any}
 use Rattle.byte_nfa.specs.Steps.{NfaValue}
-use Rattle.glob_nfa.specs.IndexedTokens.{IsFor}
+use Rattle.glob_strategy.specs.IndexedTokens.{IsFor}
 use Rattle.glob_text.specs.GlobMatches.{GlobValue, glob_matches}
 use Rattle.glob_relations.specs.Domains.{IsIn}
 use Rattle.glob_relations.specs.declared.domain.Domain.{Domain}

@@ -2,7 +2,7 @@
 
 ghost use Rattle.std.specs.Prelude.{◌≡◌, ℕ, ◌<◌, ◌++◌, ◌∷◌, [], List, OnOk, IfOk, IsOkUnless};
 ghost use Rattle.byte_nfa.specs.Runs.{size};
-ghost use Rattle.glob_nfa.specs.IndexedTokens.{IndexedTokens, IsFor};
+ghost use Rattle.glob_strategy.specs.IndexedTokens.{IndexedTokens, IsFor};
 ghost use Rattle.glob_text.specs.Errors.{out_of_memory};
 ghost use Rattle.glob_relations.specs.Answers.{TellsCovering, TellsOverlap};
 ghost use Rattle.glob_relations.specs.inner.Told.{coverage_of, intersection_of};
@@ -11,7 +11,7 @@ ghost use Rattle.glob_relations.specs.inner.Automata.{indexed_glob, indexed_glob
 use crate::domain::Domain;
 use crate::search::{Answer, search};
 use byte_nfa::{Builder, Nfa};
-use glob_nfa::{add_tokens, new_builder};
+use glob_strategy::{add_tokens, new_builder};
 use globset_glob::{Error, Glob, options_of, tokens_of};
 use std::alloc::{AllocError, Global};
 

@@ -9,3 +9,8 @@ pub mod Keys
 pub mod Excluded
 pub mod TokenMeaning
 pub mod Below
+pub mod Building
+pub mod Frames
+pub mod IndexedTokens
+pub mod Spelling
+pub mod TokenStates

@@ -4,4 +4,5 @@ pub mod Strategies
 pub mod Direct
 pub mod StrategyMeaning
 pub mod Below
+pub mod IndexedTokens
 pub mod inner

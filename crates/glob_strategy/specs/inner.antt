@@ -1,2 +1,5 @@
+pub mod Building
 pub mod DecidedByKey
 pub mod FlatTests
+pub mod Frames
+pub mod TokenStates

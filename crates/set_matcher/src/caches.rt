@@ -6,7 +6,7 @@ ghost use Rattle.bit_sets.specs.Texts.{AllBytes};
 ghost use Rattle.byte_nfa.specs.Runs.{size, max_reads};
 ghost use Rattle.byte_nfa.specs.Steps.{NfaValue};
 ghost use Rattle.glob_matching.specs.Matching.{AddsMatches, TellsMatch};
-ghost use Rattle.glob_nfa.specs.IndexedTokens.{IndexedTokens, IsFor, SomeMeanAfter};
+ghost use Rattle.glob_strategy.specs.IndexedTokens.{IndexedTokens, IsFor, SomeMeanAfter};
 ghost use Rattle.lazy_dfa.specs.Sets.{sets_capacity};
 ghost use Rattle.set_matcher.specs.inner.Automata.{AutomataParts, before_extension};
 ghost use Rattle.set_matcher.specs.inner.Caches.{AreCachesOf, IsCacheAt};

@@ -5,13 +5,13 @@ use Rattle.std.proofs.Math.Logic.{⊎_elim}
 use Rattle.byte_nfa.specs.Live.{MatchesAfter}
 use Rattle.byte_nfa.specs.Steps.{NfaValue, IsReached}
 use Rattle.bit_sets.specs.Texts.{AllBytes}
-use Rattle.glob_nfa.specs.IndexedTokens.{SomeMeanAfter}
-use Rattle.glob_nfa.specs.IndexedTokens.{IndexedTokens, SomeMatches, IsFor}
+use Rattle.glob_strategy.specs.IndexedTokens.{SomeMeanAfter}
+use Rattle.glob_strategy.specs.IndexedTokens.{IndexedTokens, SomeMatches, IsFor}
 use Rattle.bit_sets.specs.declared.index_set.IndexSet.{IndexSet}
 use Rattle.bit_sets.proofs.lemmas.Texts.{all_bytes}
 use Rattle.glob_matching.specs.Matching.{AddsMatches, TellsMatch}
 use Rattle.glob_matching.specs.inner.Found.{AddsReached}
-use Rattle.glob_nfa.proofs.lemmas.IndexedTokens.{reached_matches}
+use Rattle.glob_strategy.proofs.lemmas.IndexedTokens.{reached_matches}
 
 -- beside what was found before
 pub finds_matches : {Now Before : Type 0} (m : NfaValue) (xs : List IndexedTokens) (path : List ℕ) (k : ℕ) → ((i : ℕ) → slice_index path i < 256)

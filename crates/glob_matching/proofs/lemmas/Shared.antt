@@ -3,7 +3,7 @@ use denote.Param.Send.{IsSend, IsSync, sendable}
 use Rattle.std.proofs.Crossing.{crosses}
 use Rattle.boxcar.proofs.slot.OnceSlot.TheSendSync.{the_send, the_sync}
 use Rattle.lazy_dfa.proofs.lemmas.Shared.{cache-send, cache-sync}
-use Rattle.cache_pool.proofs.lemmas.Shared.{pool-send, pool-sync}
+use Rattle.glob_matching.proofs.lemmas.Pools.{pool-send, pool-sync}
 use Rattle.glob_matching.specs.contracts.compiled.Compiled as Compiled
 use Rattle.glob_matching.specs.contracts.kept.KeptCaches as KeptCaches
 use Rattle.glob_matching.specs.contracts.published.Published as Published

@@ -8,7 +8,7 @@ use Rattle.byte_nfa.specs.Steps.{NfaValue, IsReached}
 use Rattle.byte_nfa.proofs.lemmas.Pass.{or_first, or_second}
 use Rattle.glob_syntax.specs.declared.options.Options.{Options}
 use Rattle.glob_syntax.specs.Token.{Tokens}
-use Rattle.glob_nfa.specs.IndexedTokens.{IndexedTokens, indexed, SomeMatches, IsFor}
+use Rattle.glob_strategy.specs.IndexedTokens.{IndexedTokens, indexed, SomeMatches, IsFor}
 use Rattle.glob_text.specs.GlobMatches.{GlobValue, tokens_of_glob, glob_matches}
 use Rattle.glob_relations.specs.Answers.{some_match, TellsCovering, TellsOverlap}
 use Rattle.glob_relations.specs.Domains.{IsIn}

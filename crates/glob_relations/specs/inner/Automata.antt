@@ -1,6 +1,6 @@
 -- Globs that share an automaton.
 use Rattle.std.specs.Prelude.{ℕ, List, map}
-use Rattle.glob_nfa.specs.IndexedTokens.{IndexedTokens, indexed}
+use Rattle.glob_strategy.specs.IndexedTokens.{IndexedTokens, indexed}
 use Rattle.glob_text.specs.GlobMatches.{GlobValue, tokens_of_glob}
 
 -- the tokens of the glob, under an index

@@ -13,9 +13,9 @@ use Rattle.glob_syntax.specs.inner.Weight.{weight}
 use Rattle.byte_nfa.specs.Steps.{NfaValue}
 use Rattle.byte_nfa.specs.Runs.{max_reads}
 use Rattle.glob_syntax.specs.After.{MeanAfter}
-use Rattle.glob_nfa.specs.IndexedTokens.{SomeMeanAfter}
+use Rattle.glob_strategy.specs.IndexedTokens.{SomeMeanAfter}
 use Rattle.glob_syntax.specs.TokensMatch.{tokens_match}
-use Rattle.glob_nfa.specs.IndexedTokens.{IndexedTokens, indexed, SomeMatches, IsFor}
+use Rattle.glob_strategy.specs.IndexedTokens.{IndexedTokens, indexed, SomeMatches, IsFor}
 use Rattle.glob_syntax.proofs.lemmas.Booleans.{same_truth}
 use Rattle.glob_path.specs.Below.{folder_start}
 use Rattle.glob_text.specs.GlobMatches.{GlobValue, tokens_of_glob, glob_matches}

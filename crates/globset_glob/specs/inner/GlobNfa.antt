@@ -3,7 +3,7 @@ use Rattle.std.specs.Prelude.{◌≡◌, ◌≤◌, ℕ, [], ◌∷◌}
 use Rattle.std.specs.Arc.{arc_value}
 use Rattle.byte_nfa.specs.Steps.{NfaValue}
 use Rattle.byte_nfa.specs.Runs.{size, max_reads}
-use Rattle.glob_nfa.specs.IndexedTokens.{indexed, IsFor}
+use Rattle.glob_strategy.specs.IndexedTokens.{indexed, IsFor}
 use Rattle.glob_strategy.specs.inner.DecidedByKey.{IsDecidedBy}
 use Rattle.glob_path.specs.Key.{key_seen}
 use Rattle.glob_text.specs.GlobMatches.{GlobValue, tokens_of_glob}

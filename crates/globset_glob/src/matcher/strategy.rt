@@ -10,9 +10,8 @@ ghost use Rattle.globset_glob.specs.inner.GlobNfa.{IsAutomatonOf, IsCacheOf, IsS
 use crate::glob::{Glob, options_of, tokens_of};
 use bit_sets::Visits;
 use glob_matching::{Compiled, DEFAULT_DFA_SIZE_LIMIT};
-use glob_nfa::{add_tokens, new_builder};
 use glob_path::{Candidate, Key};
-use glob_strategy::{MatchStrategy, strategy_of};
+use glob_strategy::{MatchStrategy, add_tokens, new_builder, strategy_of};
 use lazy_dfa::{Cache, StateSets};
 use std::alloc::{AllocError, Global};
 use std::sync::Arc;

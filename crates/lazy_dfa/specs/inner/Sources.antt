@@ -9,7 +9,7 @@ use Rattle.byte_nfa.specs.Runs.{size}
 use Rattle.bit_sets.specs.StateSets.{state_capacity}
 use Rattle.bit_sets.specs.declared.state_set.StateSet.{StateSet}
 use Rattle.byte_nfa.specs.EarlyMatches.{EndsAtEarlyMatches}
-use Rattle.nfa_sharing.specs.Sharing.{Shares}
+use Rattle.byte_nfa.specs.Sharing.{Shares}
 use Rattle.lazy_dfa.specs.declared.classes.ByteClasses.{ByteClasses}
 use Rattle.lazy_dfa.specs.inner.Classes.{AreEquivalenceClasses}
 

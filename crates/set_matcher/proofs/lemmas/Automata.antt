@@ -8,7 +8,7 @@ use Rattle.std.proofs.lemmas.List.{length-append}
 use Rattle.byte_nfa.specs.Runs.{size}
 use Rattle.byte_nfa.specs.Steps.{State, NfaValue, state, union_state, HasNumber, Accepts, ends, by_byte, by_skip, by_out, by_stay}
 use Rattle.bit_sets.specs.Texts.{AllBytes}
-use Rattle.glob_nfa.specs.IndexedTokens.{IndexedTokens, SomeMatches, IsFor}
+use Rattle.glob_strategy.specs.IndexedTokens.{IndexedTokens, SomeMatches, IsFor}
 use Rattle.glob_strategy.proofs.lemmas.TokenMeaning.{extension_end}
 use Rattle.glob_path.specs.PathParts.{after_position, component_extension, last_component, last_position, is_separator}
 use Rattle.set_matcher.specs.inner.Automata.{before_extension}

@@ -8,9 +8,9 @@ use Rattle.byte_nfa.specs.Live.{MatchesAfter}
 use Rattle.byte_nfa.specs.Runs.{max_reads}
 use Rattle.byte_nfa.specs.Steps.{NfaValue}
 use Rattle.bit_sets.specs.Texts.{AllBytes}
-use Rattle.glob_nfa.specs.IndexedTokens.{SomeMeanAfter}
-use Rattle.glob_nfa.specs.IndexedTokens.{IndexedTokens, IsFor}
-use Rattle.glob_nfa.proofs.lemmas.IndexedTokens.{reached_matches}
+use Rattle.glob_strategy.specs.IndexedTokens.{SomeMeanAfter}
+use Rattle.glob_strategy.specs.IndexedTokens.{IndexedTokens, IsFor}
+use Rattle.glob_strategy.proofs.lemmas.IndexedTokens.{reached_matches}
 use Rattle.glob_matching.proofs.lemmas.Compiled.{some_after, after_some}
 use Rattle.glob_path.specs.KeysBelow.{MatchesBelow}
 use Rattle.set_matcher.specs.inner.TokenGlobs.{TokenGlob, SomeReportedBelow}

@@ -16,8 +16,8 @@ use Rattle.byte_keys.specs.Entries.{Entry, entry, indexes_under}
 use Rattle.byte_keys.proofs.lemmas.Entries.{with_index}
 use Rattle.byte_keys.proofs.lemmas.Entries.{indexes_added}
 use Rattle.glob_syntax.specs.After.{MeanAfter}
-use Rattle.glob_nfa.specs.IndexedTokens.{SomeMeanAfter}
-use Rattle.glob_nfa.specs.IndexedTokens.{IndexedTokens, IsFor}
+use Rattle.glob_strategy.specs.IndexedTokens.{SomeMeanAfter}
+use Rattle.glob_strategy.specs.IndexedTokens.{IndexedTokens, IsFor}
 use Rattle.set_matcher.specs.inner.Automata.{ExtensionParts, AreExtensionMatchers, AreFor, KeepsTokens, AddsTokens, SomeExtensionAfter, first, max_size, slot_of, tokens_under, total_reads, nfa_under}
 use Rattle.set_matcher.proofs.lemmas.Tables.{first_in, under_push, first_push}
 

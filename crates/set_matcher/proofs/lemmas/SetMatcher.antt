@@ -13,8 +13,8 @@ use Rattle.byte_nfa.specs.Runs.{max_reads}
 use Rattle.bit_sets.specs.Texts.{AllBytes}
 use Rattle.glob_syntax.specs.After.{MeanAfter}
 use Rattle.glob_syntax.specs.TokensMatch.{tokens_match, is_prefix}
-use Rattle.glob_nfa.specs.IndexedTokens.{IndexedTokens, SomeMatches, IsFor, indexed}
-use Rattle.glob_nfa.proofs.lemmas.IndexedTokens.{none_for, some_push}
+use Rattle.glob_strategy.specs.IndexedTokens.{IndexedTokens, SomeMatches, IsFor, indexed}
+use Rattle.glob_strategy.proofs.lemmas.IndexedTokens.{none_for, some_push}
 use Rattle.glob_path.specs.Below.{folder_start, path_below}
 use Rattle.glob_path.specs.PathParts.{last_component, component_extension}
 use Rattle.glob_strategy.specs.Below.{AreReportedBelow}

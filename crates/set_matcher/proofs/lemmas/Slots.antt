@@ -3,7 +3,7 @@ use Rattle.std.proofs.Common.{◌≡◌, ℕ, zero, suc, List, [], ◌∷◌, �
 use Rattle.std.specs.Prelude.{IfSome}
 use Rattle.std.specs.Option.{option_map_or}
 use Rattle.byte_nfa.specs.Steps.{NfaValue}
-use Rattle.glob_nfa.specs.IndexedTokens.{IndexedTokens, IsFor}
+use Rattle.glob_strategy.specs.IndexedTokens.{IndexedTokens, IsFor}
 use Rattle.set_matcher.specs.inner.Automata.{AutomataParts, AreFor, nfa_at, nfa_under, slot_of, tokens_under}
 use Rattle.set_matcher.specs.inner.Caches.{AreSlotCaches, IsCacheAt}
 

@@ -10,8 +10,8 @@ use Rattle.bit_sets.specs.Indexes.{has_index, index_capacity}
 use Rattle.bit_sets.specs.declared.index_set.IndexSet.{IndexSet}
 use Rattle.byte_keys.specs.Entries.{Entry, indexes_under}
 use Rattle.glob_syntax.specs.After.{MeanAfter}
-use Rattle.glob_nfa.specs.IndexedTokens.{SomeMeanAfter}
-use Rattle.glob_nfa.specs.IndexedTokens.{IndexedTokens, SomeMatches, IsFor}
+use Rattle.glob_strategy.specs.IndexedTokens.{SomeMeanAfter}
+use Rattle.glob_strategy.specs.IndexedTokens.{IndexedTokens, SomeMatches, IsFor}
 use Rattle.glob_path.specs.Below.{folder_start}
 use Rattle.glob_path.specs.PathParts.{last_component, component_extension}
 

@@ -4,7 +4,7 @@ ghost use Rattle.std.specs.Prelude.{◌≡◌, ◌+◌, ◌*◌, ◌<◌, ◌≤
 ghost use Rattle.byte_nfa.specs.Runs.{size, max_reads};
 ghost use Rattle.lazy_dfa.specs.Sets.{sets_capacity};
 ghost use Rattle.std.specs.Option.{option_map_or};
-ghost use Rattle.glob_nfa.specs.IndexedTokens.{IndexedTokens, IsFor, indexed};
+ghost use Rattle.glob_strategy.specs.IndexedTokens.{IndexedTokens, IsFor, indexed};
 ghost use Rattle.glob_syntax.specs.FlatTokens.{IsNested};
 ghost use Rattle.glob_syntax.specs.Views.{flats, tokens_of};
 ghost use Rattle.glob_syntax.specs.inner.Weight.{weight};
@@ -17,7 +17,7 @@ use bit_sets::Visits;
 use byte_keys::Table;
 use byte_nfa::Builder;
 use glob_matching::Compiled;
-use glob_nfa::{add_tokens, new_builder};
+use glob_strategy::{add_tokens, new_builder};
 use glob_syntax::{Options, Token};
 use lazy_dfa::StateSets;
 use std::alloc::{AllocError, Global};

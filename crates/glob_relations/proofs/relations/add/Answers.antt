@@ -1,6 +1,6 @@
 use Rattle.std.proofs.Common.{List, [], ◌∷◌, ◌++◌, OnOk}
 use Rattle.glob_syntax.specs.Views.{tokens_of}
-use Rattle.glob_nfa.specs.IndexedTokens.{IndexedTokens, IsFor}
+use Rattle.glob_strategy.specs.IndexedTokens.{IndexedTokens, IsFor}
 use Rattle.glob_relations.proofs.lemmas.Automata.{glob_added}
 use Rattle.glob_relations.proofs.relations.add.Goals as goal
 

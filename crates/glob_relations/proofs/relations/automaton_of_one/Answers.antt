@@ -1,7 +1,7 @@
 use Rattle.std.proofs.Common.{◌≡◌, ◌+◌, List, [], ◌∷◌, ◌++◌, drop, refl, ap, sym, subst, ◌∙◌, arith, append-nil}
 use Rattle.std.proofs.lemmas.List.{drop_more, drop_all, append_assoc}
 use Rattle.byte_nfa.specs.Steps.{NfaValue}
-use Rattle.glob_nfa.specs.IndexedTokens.{IsFor}
+use Rattle.glob_strategy.specs.IndexedTokens.{IsFor}
 use Rattle.glob_text.specs.GlobMatches.{GlobValue}
 use Rattle.glob_relations.specs.inner.Automata.{indexed_glob, indexed_globs}
 use Rattle.glob_relations.proofs.relations.automaton_of_one.Goals as goal

@@ -1,5 +1,5 @@
 use Rattle.std.proofs.Common.{◌≡◌, List, ◌∷◌, ◌++◌, drop}
-use Rattle.glob_nfa.specs.IndexedTokens.{IndexedTokens, IsFor}
+use Rattle.glob_strategy.specs.IndexedTokens.{IndexedTokens, IsFor}
 use Rattle.glob_relations.specs.inner.Automata.{indexed_glob, indexed_globs}
 use Rattle.glob_relations.proofs.relations.automaton_of_one.Given as goal
 

@@ -1,6 +1,6 @@
 use Rattle.std.proofs.Common.{[], ◌∷◌, sym, subst}
 use Rattle.byte_nfa.specs.Steps.{NfaValue}
-use Rattle.glob_nfa.specs.IndexedTokens.{IsFor}
+use Rattle.glob_strategy.specs.IndexedTokens.{IsFor}
 use Rattle.glob_relations.specs.inner.Automata.{indexed_glob}
 use Rattle.glob_relations.proofs.relations.automaton_of_two.Goals as goal
 

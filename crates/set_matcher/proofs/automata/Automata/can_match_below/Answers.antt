@@ -1,7 +1,7 @@
 use Rattle.std.proofs.Common.{ℕ, inl, inr, List, IsTrue, length, refl, ap, sym, subst, ◌∙◌, true≢false, arith}
 use Rattle.std.specs.Prelude.{◌↔◌}
 use Rattle.std.proofs.lemmas.Result.{IfOk-weaker}
-use Rattle.glob_nfa.specs.IndexedTokens.{IndexedTokens}
+use Rattle.glob_strategy.specs.IndexedTokens.{IndexedTokens}
 use Rattle.glob_path.specs.Below.{folder_start}
 use Rattle.set_matcher.specs.inner.Automata.{AutomataParts, AreFor, AreForLists, AreFoundBelow, SomeExtensionAfter, TokenLists, total_reads}
 use Rattle.set_matcher.proofs.lemmas.Below.{last_of_three, max_within, some_text}

@@ -1,5 +1,5 @@
 use Rattle.std.proofs.Common.{◌≡◌, ◌+◌, ◌*◌, ◌≤◌, length, ap, sym, subst, true≢false, arith, ◌∙◌}
-use Rattle.glob_nfa.specs.IndexedTokens.{IsFor}
+use Rattle.glob_strategy.specs.IndexedTokens.{IsFor}
 use Rattle.byte_nfa.specs.Runs.{size, max_reads}
 use Rattle.lazy_dfa.specs.Sets.{sets_capacity}
 use Rattle.byte_nfa.specs.Steps.{NfaValue}

@@ -2,7 +2,7 @@ use Rattle.std.proofs.Common.{inl, inr, ℕ, ◌+◌, ◌*◌, ◌≤◌, length
 use Rattle.std.specs.Prelude.{◌↔◌, IsTrue, List}
 use Rattle.std.proofs.lemmas.Result.{IfOk-weaker}
 use Rattle.byte_nfa.specs.Runs.{max_reads}
-use Rattle.glob_nfa.specs.IndexedTokens.{IndexedTokens, SomeMatches, IsFor}
+use Rattle.glob_strategy.specs.IndexedTokens.{IndexedTokens, SomeMatches, IsFor}
 use Rattle.glob_path.specs.PathParts.{component_extension}
 use Rattle.set_matcher.specs.inner.Automata.{AutomataParts, TokenLists, AreForLists, AreFound, before_extension, nfa_under, tokens_under}
 use Rattle.set_matcher.proofs.lemmas.Automata.{last_run}

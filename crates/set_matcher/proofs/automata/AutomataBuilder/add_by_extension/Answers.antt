@@ -1,7 +1,7 @@
 use Rattle.std.proofs.Common.{ℕ, List, ap, subst, ◌∙◌, sym}
 use Rattle.std.specs.Prelude.{OnOk}
 use Rattle.glob_syntax.specs.Views.{tokens_of}
-use Rattle.glob_nfa.specs.IndexedTokens.{IndexedTokens, indexed}
+use Rattle.glob_strategy.specs.IndexedTokens.{IndexedTokens, indexed}
 use Rattle.set_matcher.specs.inner.Automata.{AddsTokens, AreFor, AutomataParts}
 use Rattle.set_matcher.specs.inner.Builders.{built}
 use Rattle.set_matcher.proofs.lemmas.Builders.{count_kept}

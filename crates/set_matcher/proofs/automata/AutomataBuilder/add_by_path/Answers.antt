@@ -1,7 +1,7 @@
 use Rattle.std.proofs.Common.{◌++◌, ◌∷◌, [], List, ap, subst, arith, ◌∙◌}
 use Rattle.std.specs.Prelude.{OnOk}
 use Rattle.glob_syntax.specs.Views.{tokens_of}
-use Rattle.glob_nfa.specs.IndexedTokens.{IndexedTokens, IsFor, indexed}
+use Rattle.glob_strategy.specs.IndexedTokens.{IndexedTokens, IsFor, indexed}
 use Rattle.set_matcher.specs.declared.automata.Builders.{Builders}
 use Rattle.set_matcher.specs.inner.Automata.{AutomataParts}
 use Rattle.set_matcher.specs.inner.Builders.{built}

@@ -2,7 +2,7 @@ use Rattle.std.proofs.Common.{[], ◌∷◌, ◌≤◌, ◌+◌, ◌*◌, length
 use Rattle.std.proofs.Math.Nat.{mul-le-mul_left}
 use Rattle.std.proofs.lemmas.Result.{IfOk-weaker}
 use Rattle.byte_nfa.specs.Runs.{max_reads}
-use Rattle.glob_nfa.specs.IndexedTokens.{indexed}
+use Rattle.glob_strategy.specs.IndexedTokens.{indexed}
 use Rattle.glob_text.specs.GlobMatches.{tokens_of_glob, glob_matches}
 use Rattle.glob_text.specs.Cost.{cost}
 use Rattle.globset_glob.specs.declared.matcher.strategy.Strategy.{Strategy}

@@ -3,7 +3,7 @@ use Rattle.std.specs.Prelude.{length}
 use Rattle.std.specs.Option.{option_map_or}
 use Rattle.byte_nfa.specs.Runs.{size}
 use Rattle.byte_nfa.specs.Steps.{NfaValue}
-use Rattle.glob_nfa.specs.IndexedTokens.{IsFor}
+use Rattle.glob_strategy.specs.IndexedTokens.{IsFor}
 use Rattle.set_matcher.specs.inner.Automata.{ExtensionParts, AreFor, nfa_at, max_size}
 use Rattle.set_matcher.proofs.lemmas.ExtensionMatchers.{any_default, max_bounds}
 use Rattle.set_matcher.proofs.automata.matchers.ExtensionMatchers.automaton_at.Goals as goal

@@ -1,6 +1,6 @@
 use Rattle.std.proofs.Common.{◌≡◌, ◌++◌, ◌∷◌, [], ◌+◌, ◌*◌, ◌≤◌, ℕ, List, length, take}
 use Rattle.lazy_dfa.specs.Sets.{sets_capacity}
-use Rattle.glob_nfa.specs.IndexedTokens.{IndexedTokens}
+use Rattle.glob_strategy.specs.IndexedTokens.{IndexedTokens}
 use Rattle.set_matcher.specs.inner.Automata.{AreFor, SomeExtensionAfter, total_reads}
 use Rattle.set_matcher.proofs.automata.matchers.ExtensionMatchers.can_match_after.Given as goal
 

@@ -1,5 +1,5 @@
 use Rattle.std.proofs.Common.{◌≡◌, ◌∷◌, ◌++◌, [], None, refl, length, ap, sym, subst, arith, ◌∙◌, ℕ, List}
-use Rattle.glob_nfa.specs.IndexedTokens.{IndexedTokens}
+use Rattle.glob_strategy.specs.IndexedTokens.{IndexedTokens}
 use Rattle.byte_nfa.specs.Runs.{max_reads}
 use Rattle.byte_nfa.specs.Steps.{NfaValue}
 use Rattle.byte_keys.specs.Entries.{Entry, entry}

@@ -5,7 +5,7 @@ use Rattle.glob_syntax.specs.inner.Weight.{weight}
 use Rattle.byte_nfa.specs.Runs.{max_reads}
 use Rattle.byte_nfa.specs.Steps.{NfaValue}
 use Rattle.byte_keys.specs.Entries.{indexes_under}
-use Rattle.glob_nfa.specs.IndexedTokens.{IsFor, indexed}
+use Rattle.glob_strategy.specs.IndexedTokens.{IsFor, indexed}
 use Rattle.set_matcher.specs.inner.Automata.{ExtensionParts, KeepsTokens, nfa_under, slot_of, total_reads}
 use Rattle.set_matcher.proofs.lemmas.Tables.{first_in}
 use Rattle.set_matcher.proofs.lemmas.ExtensionMatchers.{extension_parts, matchers_set, slot_adds, slot_reads_added, total_set}

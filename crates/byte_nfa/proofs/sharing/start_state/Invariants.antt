@@ -1,0 +1,13 @@
+use Rattle.std.proofs.Common.{◌≤◌}
+use Rattle.byte_nfa.specs.Runs.{size}
+use Rattle.byte_nfa.specs.inner.Known.{IsSharing}
+use Rattle.byte_nfa.proofs.sharing.start_state.Given as goal
+
+abbrev pub invariant-loop-list : goal.invariant-loop-list
+invariant-loop-list l = record {
+  sharing : IsSharing l.automaton l.builder l.sharing.known.entries.items;
+  states : size l.builder ≤ size l.automaton;
+}
+
+abbrev pub decreases-loop-list : goal.decreases-loop-list
+decreases-loop-list l = l.sharing.left

@@ -1,0 +1,25 @@
+-- Chunks: states of one kind with the same bytes.
+use Rattle.std.specs.Prelude.{◌≡◌, ℕ, ◌<◌, ◌≤◌, List, [], ◌∷◌, slice_index}
+use Rattle.byte_nfa.specs.Building.{Pushes}
+use Rattle.byte_nfa.specs.Steps.{State, bytes_state, union_state, loop_state, match_state, state, NfaValue, HasNumber}
+use Rattle.byte_nfa.specs.declared.sharing.known.Known.{Known}
+use Rattle.byte_nfa.specs.inner.Known.{IsKnown}
+
+-- the state, with the number n for the state that it goes on to
+abbrev pub with_next : State → ℕ → State
+with_next (bytes_state w t) n = bytes_state w n
+with_next (union_state us) n = union_state us
+with_next (loop_state w us) n = loop_state w (n ∷ [])
+with_next (match_state k) n = match_state k
+
+-- the states of the list from the place low on, below high, are st but for what they go on to: the numbers of nexts, and no others
+pub record IsChunk (a : List State) (l : List ℕ) (low high : ℕ) (st : State) (nexts : List ℕ) : Type 0 where
+  pub goes : (i : ℕ) → low ≤ i → i < high → (n : ℕ) × HasNumber n nexts × (state a (slice_index l i) ≡ with_next st n)
+  pub comes : (n : ℕ) → HasNumber n nexts → (i : ℕ) × (low ≤ i) × (i < high) × (state a (slice_index l i) ≡ with_next st n)
+
+-- the state u was pushed, which is st but goes on to the state of the list nexts; an end goes on to none, and st is no union
+abbrev pub IsPushedFor : NfaValue → NfaValue → List Known → State → List ℕ → ℕ → Type 0
+IsPushedFor old new entries (bytes_state w t) nexts u = (n : ℕ) × IsKnown entries nexts n × Pushes old new u (bytes_state w n)
+IsPushedFor old new entries (union_state us) nexts u = ⊥
+IsPushedFor old new entries (loop_state w us) nexts u = (n : ℕ) × IsKnown entries nexts n × Pushes old new u (loop_state w (n ∷ []))
+IsPushedFor old new entries (match_state k) nexts u = Pushes old new u (match_state k)

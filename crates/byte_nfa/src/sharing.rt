@@ -1,0 +1,255 @@
+//! Automata in which texts that begin alike share states.
+//!
+//! An automaton for many globs begins in a state of each, and most texts lead to states of many of them. [`shared`] makes an
+//! automaton that leads to the same ends and begins in one state. There one state stands for all that a text may lead to by steps
+//! of one kind with the same bytes, so a run goes through smaller sets of states. Each state is made for a list of states.
+
+ghost use Rattle.std.specs.Prelude.{◌≡◌, ◌+◌, ◌≤◌, [], IsTrue, IfOk, IfSome};
+ghost use Rattle.byte_nfa.specs.Runs.{size};
+ghost use Rattle.byte_nfa.specs.Sharing.{Shares};
+ghost use Rattle.byte_nfa.specs.Steps.{state};
+ghost use Rattle.byte_nfa.specs.inner.Chunks.{IsPushedFor};
+ghost use Rattle.byte_nfa.specs.inner.Known.{IsSharing};
+ghost use Rattle.byte_nfa.specs.inner.Lists.{AcceptAlike, IsStateFor};
+
+mod budget;
+mod chunk;
+mod expanded;
+mod known;
+mod order;
+mod sets;
+
+use crate::builder::Builder;
+use crate::nfa::{Nfa, StateRef};
+use budget::{budget, spend};
+use chunk::Chunk;
+use expanded::expanded;
+use known::KnownLists;
+use order::ordered;
+use sets::SetNumbers;
+use std::alloc::{AllocError, Global};
+
+/// Returns an automaton that leads where `automaton` does and begins in one state, and in which texts that begin alike share
+/// states.
+///
+/// Returns `None` if there are no starts, or if that takes more states than there are, or more work than is linear in the states.
+/// Returns an error if memory runs out. It takes memory linear in the automaton.
+pub fn shared(alloc: Global, automaton: &Nfa) -> Result<Option<Nfa>, AllocError>
+    ensures { IfOk result (λ made. IfSome made (λ new. Shares automaton.now new)) }
+{
+    if automaton.starts().is_empty() {
+        return Ok(None);
+    }
+    let mut builder = Builder::new(alloc, automaton.index_count());
+    let Some(start) = start_state(alloc, automaton, &mut builder)? else {
+        return Ok(None);
+    };
+    builder.add_start(start)?;
+    Ok(Some(builder.finish()))
+}
+
+/// The lists that a state was made for, and those that wait for one.
+#[derive(Drop)]
+struct Sharing {
+    known: KnownLists,
+    waiting: Vec<Vec<usize>>,
+    sets: SetNumbers,
+    /// How much work may still be done.
+    left: usize,
+}
+
+/// Pushes a state that stands for the states that an automaton begins in, and those that it leads to. Returns its number, or
+/// `None` if that is too much work or takes more states than the automaton has.
+pub fn start_state(
+    alloc: Global,
+    automaton: &Nfa,
+    builder: &mut Builder,
+) -> Result<Option<usize>, AllocError>
+    requires states { builder.old.states ≡ [] }
+    requires starts { builder.old.starts ≡ [] }
+    requires index_count { builder.old.index_count ≡ automaton.now.index_count }
+    ensures state { IfOk result
+        (λ made. IfSome made (λ u. IsStateFor automaton.now builder.new automaton.now.starts u)) }
+    ensures states { IfOk result
+        (λ made. IfSome made (λ u. size builder.new ≤ size automaton.now)) }
+    ensures starts { IfOk result (λ made. IfSome made (λ u. builder.new.starts ≡ [])) }
+    ensures index_count { IfOk result
+        (λ made. IfSome made (λ u. builder.new.index_count ≡ automaton.now.index_count)) }
+{
+    let mut sharing = Sharing {
+        known: KnownLists::new(alloc, automaton.state_count())?,
+        waiting: Vec::new(alloc),
+        sets: SetNumbers::new(alloc)?,
+        left: budget(automaton),
+    };
+    let starts = Vec::from_slice(alloc, automaton.starts())?;
+    sharing.waiting.push(starts)?;
+    while let Some(list) = sharing.waiting.pop() {
+        let goes_on = sharing.take(alloc, automaton, list, builder)?;
+        if !goes_on {
+            return Ok(None);
+        }
+    }
+    Ok(sharing.known.state_of(automaton.starts()))
+}
+
+impl Sharing {
+    /// Makes a state for a list, if states were made for the lists that it leads to. Otherwise these wait to be taken first, and
+    /// then this one again. Returns whether there was work left for that, and there are no more states than before.
+    fn take(
+        &mut self,
+        alloc: Global,
+        automaton: &Nfa,
+        list: Vec<usize>,
+        builder: &mut Builder,
+    ) -> Result<bool, AllocError>
+        requires sharing { IsSharing automaton.now builder.old self.old.known.entries.items }
+        requires states { size builder.old ≤ size automaton.now }
+        ensures sharing { IfOk result
+            (λ goes_on. IsTrue goes_on
+            → IsSharing automaton.now builder.new self.new.known.entries.items) }
+        ensures states { IfOk result
+            (λ goes_on. IsTrue goes_on → size builder.new ≤ size automaton.now) }
+        ensures left { IfOk result (λ goes_on. IsTrue goes_on → self.new.left + 1 ≤ self.old.left) }
+    {
+        if !spend(&mut self.left, 1) {
+            return Ok(false);
+        }
+        if self.known.state_of(&list).is_some() {
+            return Ok(true);
+        }
+        let Some(states) = self.in_order(alloc, automaton, &list)? else {
+            return Ok(false);
+        };
+        let Some(mut missing) = missing_lists(alloc, automaton, &states, &self.known)? else {
+            return Ok(false);
+        };
+        if !missing.is_empty() {
+            self.waiting.push(list)?;
+            self.waiting.append(&mut missing)?;
+            return Ok(true);
+        }
+        let Some(state) = push_list(alloc, automaton, &states, &self.known, builder)? else {
+            return Ok(false);
+        };
+        self.known.add(list, state)?;
+        Ok(builder.state_count() <= automaton.state_count())
+    }
+
+    /// Returns the states of a list with what a union goes on to in its place, in an order in which those that are alike stand
+    /// together. `None` if that is too much work.
+    fn in_order(
+        &mut self,
+        alloc: Global,
+        automaton: &Nfa,
+        list: &[usize],
+    ) -> Result<Option<Vec<usize>>, AllocError>
+        ensures alike { IfOk result
+            (λ made. IfSome made (λ states. AcceptAlike automaton.now list.now states.items)) }
+        ensures known { self.new.known ≡ self.old.known }
+        ensures left { self.new.left ≤ self.old.left }
+    {
+        // Most lists are so, and a list of one state is in order.
+        if let [only] = list {
+            if !matches!(automaton.state(*only), Some(StateRef::Union(_))) {
+                return Ok(Some(Vec::from_slice(alloc, list)?));
+            }
+        }
+        let Some(states) = expanded(alloc, automaton, list, &mut self.left)? else {
+            return Ok(None);
+        };
+        Ok(Some(ordered(alloc, automaton, &states, &mut self.sets)?))
+    }
+}
+
+/// Returns the lists of what the chunks of a list go on to that no state was made for. `None` if the list has a union.
+fn missing_lists(
+    alloc: Global,
+    automaton: &Nfa,
+    states: &[usize],
+    known: &KnownLists,
+) -> Result<Option<Vec<Vec<usize>>>, AllocError> {
+    let mut missing = Vec::new(alloc);
+    let mut at = 0;
+    while at < states.len() {
+        let Some(chunk) = Chunk::at(alloc, automaton, states, at)? else {
+            return Ok(None);
+        };
+        at = chunk.end;
+        let is_end = matches!(automaton.state(chunk.first), Some(StateRef::Match(_)));
+        if !is_end && known.state_of(&chunk.nexts).is_none() {
+            missing.push(chunk.nexts)?;
+        }
+    }
+    Ok(Some(missing))
+}
+
+/// Pushes a state that stands for a list, and a state for each of its chunks. Returns its number, or `None` if the list has a union
+/// or leads to a list that no state was made for.
+fn push_list(
+    alloc: Global,
+    automaton: &Nfa,
+    states: &[usize],
+    known: &KnownLists,
+    builder: &mut Builder,
+) -> Result<Option<usize>, AllocError>
+    requires { IsSharing automaton.now builder.old known.now.entries.items }
+    ensures sharing { IfOk result
+        (λ made. IfSome made (λ u. IsSharing automaton.now builder.new known.now.entries.items)) }
+    ensures state { IfOk result
+        (λ made. IfSome made (λ u. IsStateFor automaton.now builder.new states.now u)) }
+{
+    let mut parts = Vec::new(alloc);
+    let mut at = 0;
+    while at < states.len() {
+        let Some(chunk) = Chunk::at(alloc, automaton, states, at)? else {
+            return Ok(None);
+        };
+        let Some(part) = push_chunk(automaton, &chunk, known, builder)? else {
+            return Ok(None);
+        };
+        parts.push(part)?;
+        at = chunk.end;
+    }
+    if let [only] = parts.as_slice() {
+        return Ok(Some(*only));
+    }
+    let union = builder.push_union(&parts)?;
+    Ok(Some(union))
+}
+
+/// Pushes the state of a chunk. Returns its number, or `None` if no state was made for the list that the chunk goes on to.
+fn push_chunk(
+    automaton: &Nfa,
+    chunk: &Chunk,
+    known: &KnownLists,
+    builder: &mut Builder,
+) -> Result<Option<usize>, AllocError>
+    requires { IsSharing automaton.now builder.old known.now.entries.items }
+    ensures { IfOk result
+        (λ made. IfSome made
+        (λ u. IsPushedFor builder.old builder.new known.now.entries.items
+        (state automaton.now.states chunk.now.first) chunk.now.nexts.items u)) }
+{
+    match automaton.state(chunk.first) {
+        Some(StateRef::Bytes(bytes, _)) => {
+            let Some(next) = known.state_of(&chunk.nexts) else {
+                return Ok(None);
+            };
+            let state = builder.push_bytes(*bytes, next)?;
+            Ok(Some(state))
+        }
+        Some(StateRef::Loop(bytes, _)) => {
+            let Some(exit) = known.state_of(&chunk.nexts) else {
+                return Ok(None);
+            };
+            let state = builder.push_loop(*bytes, exit)?;
+            Ok(Some(state))
+        }
+        Some(StateRef::Match(index)) => {
+            let state = builder.push_match(index)?;
+            Ok(Some(state))
+        }
+        Some(StateRef::Union(_)) | None => Ok(None),
+    }
+}

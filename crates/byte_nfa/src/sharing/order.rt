@@ -1,0 +1,63 @@
+//! The order of states in which those of one kind with the same bytes stand together.
+
+ghost use Rattle.std.specs.Prelude.{◌≡◌, ℕ, ◌↔◌, map, IfOk};
+ghost use Rattle.byte_nfa.specs.Steps.{HasNumber};
+
+use crate::nfa::{Nfa, StateRef};
+use crate::sharing::sets::SetNumbers;
+use std::alloc::{AllocError, Global};
+
+/// What a state is put in order by.
+#[derive(Clone, Copy, PartialEq, Eq, PartialOrd, Ord)]
+struct Key {
+    kind: u8,
+    /// The number of the state's set, or its index.
+    number: usize,
+    next: usize,
+    state: usize,
+}
+
+/// Returns states in an order in which those of one kind with the same bytes, and ends of one index, stand together, by the
+/// number of what they go on to.
+pub fn ordered(
+    alloc: Global,
+    automaton: &Nfa,
+    states: &[usize],
+    sets: &mut SetNumbers,
+) -> Result<Vec<usize>, AllocError>
+    ensures { IfOk result
+        (λ in_order. (s : ℕ) → HasNumber s in_order.items ↔ HasNumber s states.now) }
+{
+    let mut keys = Vec::with_capacity(alloc, states.len())?;
+    for s in states {
+        let key = key_of(automaton, *s, sets)?;
+        keys.push(key)?;
+    }
+    keys.sort_unstable();
+    states_of(alloc, &keys)
+}
+
+/// Returns the states of keys, in their order.
+fn states_of(alloc: Global, keys: &[Key]) -> Result<Vec<usize>, AllocError>
+    ensures { IfOk result (λ states. states.items ≡ map (λ key. key.state) keys.now) }
+{
+    keys.iter().map(|key| key.state).collect(alloc)
+}
+
+/// Returns the key of a state.
+fn key_of(automaton: &Nfa, state: usize, sets: &mut SetNumbers) -> Result<Key, AllocError>
+    ensures { IfOk result (λ key. key.state ≡ state) }
+{
+    let (kind, number, next) = match automaton.state(state) {
+        Some(StateRef::Bytes(bytes, next)) => (0, sets.number_of(bytes)?, next),
+        Some(StateRef::Loop(bytes, exit)) => (1, sets.number_of(bytes)?, exit),
+        Some(StateRef::Match(index)) => (2, index, 0),
+        Some(StateRef::Union(_)) | None => (3, 0, 0),
+    };
+    Ok(Key {
+        kind,
+        number,
+        next,
+        state,
+    })
+}

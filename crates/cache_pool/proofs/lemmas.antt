@@ -1,2 +1,0 @@
--- Lemmas by topic.
-pub mod Shared

@@ -1,2 +1,0 @@
-pub mod IndexedTokens
-pub mod inner

@@ -1,7 +1,0 @@
-use Rattle.line_filter.proofs.lemmas.Lines.{IsWholeLines-after}
-use Rattle.line_filter.proofs.lemmas.Output.{sifted-append}
-use Rattle.std.proofs.Common.{[], ◌∷◌, ◌++◌}
-use Rattle.line_filter.proofs.laws.parts_of_input.Goals as goal
-
-pub returns : goal.returns
-returns c globs numbered before after = sifted-append globs numbered (before ++ 10 ∷ []) after (IsWholeLines-after before)

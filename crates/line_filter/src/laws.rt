@@ -1,9 +1,0 @@
-//! A law of the output, as the contract of a function with an empty body.
-
-ghost use Rattle.line_filter.specs.Laws.{PartsOfInput};
-
-/// An input can be cut after any LF: the outputs for the parts, one after another, are the output for the whole. So parts of
-/// a large input can be given to programs that run at the same time.
-pub fn parts_of_input()
-    ensures { PartsOfInput }
-{}

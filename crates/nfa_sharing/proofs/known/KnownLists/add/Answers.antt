@@ -1,8 +1,0 @@
-use Rattle.nfa_sharing.specs.declared.known.Known.{Known}
-use Rattle.nfa_sharing.proofs.lemmas.Known.{known_push}
-use Rattle.nfa_sharing.proofs.known.KnownLists.add.Goals as goal
-
-pub returns : goal.returns
-returns c = λ l u is.
-    let entry : Known = record { list = c.args.list; state = c.args.state } in
-    known_push c.args.self.now.entries.items entry l u (rw c.in_ok-keep_place.ensures at (rw c.in_ok-push.ensures.items at is))
