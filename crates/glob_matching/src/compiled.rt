@@ -33,7 +33,7 @@ impl Model for Compiled {
     ghost use Rattle.std.specs.Arc.{arc_value};
     ghost use Rattle.std.specs.Prelude.{◌≡◌, IfSome};
     ghost use Rattle.byte_nfa.specs.Steps.{NfaValue};
-    
+
     ghost Value = { NfaValue };
 
     ghost view = { λ c. c.source };

@@ -34,7 +34,7 @@ impl Model for RowSource {
     ghost use Rattle.std.specs.Arc.{arc_value};
     ghost use Rattle.std.specs.Prelude.{◌≡◌};
     ghost use Rattle.byte_nfa.specs.Steps.{NfaValue};
-    
+
     ghost Value = { NfaValue };
 
     ghost view = { λ r. r.source.value };

@@ -99,12 +99,7 @@ impl Cache {
 
     /// The same as [`Cache::find`] by entries that are there. Returns whether all that it needs are; if not, some of the indexes are
     /// put into the set. It is at most one visit for each byte and one more.
-    pub fn find_known(
-        &self,
-        text: &[u8],
-        found: &mut IndexSet,
-        visits: &mut Visits,
-    ) -> bool
+    pub fn find_known(&self, text: &[u8], found: &mut IndexSet, visits: &mut Visits) -> bool
         requires room { self.now.index_count ≤ index_capacity found.old }
         ensures room { index_capacity found.new ≡ index_capacity found.old }
         ensures found { IsTrue result → (k : ℕ)
@@ -149,12 +144,7 @@ impl Cache {
     /// Returns whether some text that begins with `text` and then `byte` leads to some end.
     ///
     /// It is as many visits for each byte as [`Cache::find`] makes, and at most one more for each state. It takes no memory.
-    pub fn can_match_after(
-        &mut self,
-        text: &[u8],
-        byte: u8,
-        visits: &mut Visits,
-    ) -> bool
+    pub fn can_match_after(&mut self, text: &[u8], byte: u8, visits: &mut Visits) -> bool
         ensures same { self.new ≡ self.old }
         ensures some { IsTrue result ↔ MatchesAfter self.old (text.now ++ byte ∷ []) }
         ensures visits { visits.new ≤ visits.old + (length text.now + 2) * (size self.old + 1) }
@@ -167,12 +157,7 @@ impl Cache {
 
     /// The same as [`Cache::can_match_after`] by entries that are there. Returns `None` if one that it needs is not. It is at most one
     /// visit for each byte and one more, and one for each state.
-    pub fn can_match_after_known(
-        &self,
-        text: &[u8],
-        byte: u8,
-        visits: &mut Visits,
-    ) -> Option<bool>
+    pub fn can_match_after_known(&self, text: &[u8], byte: u8, visits: &mut Visits) -> Option<bool>
         ensures some { IfSome result
             (λ yes. IsTrue yes ↔ MatchesAfter self.now (text.now ++ byte ∷ [])) }
         ensures missed { result ≡ None → visits.new ≤ visits.old + (length text.now + 1) }

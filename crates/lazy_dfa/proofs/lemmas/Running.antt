@@ -37,6 +37,7 @@ module _ (source run : NfaValue) (runs : RunsFor source run) where
     where
       none : length runs.sharing.starts ≡ 0
       none = let same = runs.early.starts in cc
+
       no_number : (xs : List ℕ) → length xs ≡ 0 → (s : ℕ) → HasNumber s xs → ⊥
       no_number [] e s h = h
       no_number (x ∷ xs) e s h = omega (arith, e)
