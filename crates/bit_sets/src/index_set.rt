@@ -41,7 +41,7 @@ impl IndexSet {
     }
 
     /// Returns an empty set with room for so many indexes. It takes a bit of memory for each above the first 64, and one more for
-    /// each 64 of these. Returns an error if memory runs out.
+    /// each 64 of these.
     pub fn new(alloc: Global, indexes: usize) -> Result<IndexSet, AllocError>
         ensures room { IfOk result (λ set. indexes ≤ index_capacity set) }
         ensures none { IfOk result (λ set. (k : ℕ) → has_index set k ≡ false) }
@@ -52,7 +52,7 @@ impl IndexSet {
     }
 
     /// Makes room for so many indexes, if there is less. It takes a bit of memory for each above the first 64, and one more for
-    /// each 64 of these. Returns an error if memory runs out. The set has the same indexes in each case.
+    /// each 64 of these. The set has the same indexes in each case.
     pub fn reserve(&mut self, indexes: usize) -> Result<(), AllocError>
         ensures ok { OnOk result (indexes ≤ index_capacity self.new) }
         ensures kept { index_capacity self.old ≤ index_capacity self.new }
@@ -141,8 +141,8 @@ impl IndexSet {
         if at < end { Some(at) } else { None }
     }
 
-    /// Pushes the indexes of the set that are below a number, ascending, onto an empty vector. Returns an error if memory runs out;
-    /// some of them are pushed then. It needs no memory if the vector has a capacity of `end`.
+    /// Pushes the indexes of the set that are below a number, ascending, onto an empty vector. Returns an error if memory runs
+    /// out; some of them are pushed then. It allocates nothing if the vector has a capacity of `end`.
     pub fn push_below(&self, end: usize, into: &mut Vec<usize>) -> Result<(), AllocError>
         requires { into.old.items ≡ [] }
         ensures pushed { OnOk result

@@ -39,8 +39,7 @@ impl StateSet {
         }
     }
 
-    /// Returns an empty set with room for so many states. It takes a bit of memory for each. Returns an error if memory
-    /// runs out.
+    /// Returns an empty set with room for so many states. It takes a bit of memory for each.
     pub fn new(alloc: Global, states: usize) -> Result<StateSet, AllocError>
         ensures room { IfOk result (λ set. states ≤ state_capacity set) }
         ensures least { IfOk result (λ set. state_capacity set < states + 64) }
@@ -55,7 +54,7 @@ impl StateSet {
         })
     }
 
-    /// Makes room for so many states, if there is less. It takes a bit of memory for each. Returns an error if memory runs out.
+    /// Makes room for so many states, if there is less. It takes a bit of memory for each.
     pub fn reserve(&mut self, states: usize) -> Result<(), AllocError>
         ensures ok { OnOk result (states ≤ state_capacity self.new) }
         ensures kept { state_capacity self.old ≤ state_capacity self.new }

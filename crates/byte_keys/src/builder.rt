@@ -32,7 +32,7 @@ impl Model for TableBuilder {
 }
 
 impl TableBuilder {
-    /// Returns a builder of no entries, which takes no memory.
+    /// Returns a builder of no entries, which allocates nothing.
     pub fn new(alloc: Global) -> TableBuilder
         ensures { result ≡ [] }
     {
@@ -42,7 +42,7 @@ impl TableBuilder {
         }
     }
 
-    /// Returns a builder of no entries, with room for so many. Returns an error if memory runs out.
+    /// Returns a builder of no entries, with room for so many.
     pub fn with_capacity(alloc: Global, entries: usize) -> Result<TableBuilder, AllocError>
         ensures { IfOk result (λ builder. builder ≡ []) }
     {
@@ -96,7 +96,7 @@ impl TableBuilder {
         self.insert(&key, index)
     }
 
-    /// Returns the table of the entries. Returns an error if memory runs out.
+    /// Returns the table of the entries.
     ///
     /// The entries are sorted. The table's memory has no room for more.
     pub fn build(self) -> Result<Table, AllocError>

@@ -19,7 +19,7 @@ pub(crate) struct Directory {
 }
 
 impl Directory {
-    /// Returns a directory that knows no buckets, which takes no memory.
+    /// Returns a directory that knows no buckets, which allocates nothing.
     pub(crate) fn new(alloc: Global) -> Directory
         ensures { result.starts.items ≡ [] }
     {
@@ -46,8 +46,6 @@ impl Directory {
 }
 
 /// Makes the directory of rows that are sorted by their hashes: two to four buckets for each row.
-///
-/// Returns an error if memory runs out.
 pub(crate) fn directory_of(alloc: Global, rows: &[Row]) -> Result<Directory, AllocError>
     requires { IsNonDecreasing (hashes_of rows.now) }
     ensures { IfOk result (λ d. HasStarts rows.now d.shift d.starts.items) }

@@ -12,7 +12,7 @@ use crate::rows::Row;
 use crate::table::Contents;
 use std::alloc::{AllocError, Global};
 
-/// Returns the contents of the table of one pair. Returns an error if memory runs out.
+/// Returns the contents of the table of one pair.
 pub(crate) fn contents_of_one(
     alloc: Global,
     bytes: Vec<u8>,

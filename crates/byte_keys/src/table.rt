@@ -41,7 +41,7 @@ impl Model for Table {
 }
 
 impl Table {
-    /// Returns the table of a builder's entries. Returns an error if memory runs out.
+    /// Returns the table of a builder's entries.
     pub(crate) fn of(
         alloc: Global,
         contents: Contents,

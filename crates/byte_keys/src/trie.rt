@@ -37,8 +37,7 @@ impl Model for Trie {
 impl Trie {
     /// Returns a trie of texts, which are looked for at a side of a path.
     ///
-    /// Returns an error if memory runs out. The time is linear in the bytes of all texts, except that the texts are sorted. With no
-    /// texts it allocates nothing.
+    /// The time is linear in the bytes of all texts, except that the texts are sorted. With no texts it allocates nothing.
     pub fn new(alloc: Global, anchor: Anchor, texts: Vec<Text>) -> Result<Trie, AllocError>
         ensures { IfOk result
             (λ t. t ≡ record { anchor = anchor; entries = map entry_of texts.items }) }
@@ -67,8 +66,8 @@ impl Trie {
         self.tree.is_none()
     }
 
-    /// Puts the indexes of the texts that the path begins or ends with into a set, beside what it holds: those that it has room
-    /// for. It takes no memory.
+    /// Puts the indexes of the texts that the path begins or ends with into a set, next to its contents: those that it has room
+    /// for. It does not allocate.
     ///
     /// It is at most one visit for each byte of the path, and one more.
     // Most sets have no texts with this anchor: the test for that is a part of the caller.
@@ -84,7 +83,7 @@ impl Trie {
         }
     }
 
-    /// Returns whether the path begins or ends with some text. It stops at the first, and takes no memory.
+    /// Returns whether the path begins or ends with some text. It stops at the first, and does not allocate.
     ///
     /// It is at most one visit for each byte of the path, and one more.
     #[inline(always)]
@@ -99,7 +98,7 @@ impl Trie {
         }
     }
 
-    /// Returns how many indexes of texts the path begins or ends with, each as often as it was given. It takes no memory.
+    /// Returns how many indexes of texts the path begins or ends with, each as often as it was given. It does not allocate.
     ///
     /// It is at most one visit for each byte of the path, and one more.
     #[inline(always)]

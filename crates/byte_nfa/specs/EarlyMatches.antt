@@ -14,8 +14,8 @@ pub data Decides (a : List State) : ℕ → ℕ → Type 0 where
 abbrev pub IsAtEarlyMatch : List State → ℕ → ℕ → State → Type 0
 IsAtEarlyMatch a n s st = ((k : ℕ) × Decides a s k × (st ≡ match_state (n + k))) ⊎ (((k : ℕ) → Decides a s k → ⊥) × (st ≡ state a s))
 
--- the new automaton is the old one with an end in place of each state that decides an index; the indexes of these ends are
--- above the old indexes
+-- the new automaton is the old one with an end instead of each state that decides an index; the indexes of these ends are above
+-- the old indexes
 pub record EndsAtEarlyMatches (old new : NfaValue) : Type 0 where
   pub below : (s k : ℕ) → state old.states s ≡ match_state k → k < old.index_count
   pub states : (s : ℕ) → IsAtEarlyMatch old.states old.index_count s (state new.states s)

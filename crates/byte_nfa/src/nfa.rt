@@ -102,8 +102,8 @@ impl Nfa {
         into.put_all(&self.starts);
     }
 
-    /// Puts the index of each end that the states of a set lead to without a byte into a set of indexes, beside what it
-    /// holds. What a state of `from` goes on to without a byte is put into `from`. It reads each state at most once.
+    /// Puts the index of each end that the states of a set lead to without a byte into a set of indexes, next to its contents.
+    /// What a state of `from` goes on to without a byte is put into `from`. It reads each state at most once.
     pub fn ends(&self, from: &mut StateSet, into: &mut IndexSet)
         requires from_capacity { size self.now ≤ state_capacity from.old }
         requires into_capacity { self.now.index_count ≤ index_capacity into.old }

@@ -47,7 +47,7 @@ impl Model for Compiled {
 }
 
 impl Compiled {
-    /// Returns an automaton as it is run. It takes time and memory linear in the states. Returns an error if memory runs out.
+    /// Returns an automaton as it is run. It takes time and memory linear in the states.
     ///
     /// Calls keep rows in at most four caches, which take at most the share of `dfa_size_limit` bytes that the states have in
     /// `all_states`. Where the share is too small, there are no rows.
@@ -70,8 +70,8 @@ impl Compiled {
         self.rows.is_some()
     }
 
-    /// Returns a cache with no rows for this automaton, or `None` if there is no room for rows. All memory that it needs is taken here.
-    /// Returns an error if memory runs out.
+    /// Returns a cache with no rows for this automaton, or `None` if there is no room for rows. All memory that it needs is taken
+    /// here.
     pub fn new_cache(&self, alloc: Global) -> Result<Option<RowCache>, AllocError>
         ensures { IfOk result (λ made. IfSome made (λ cache. cache ≡ self.now)) }
     {
@@ -125,11 +125,11 @@ impl Compiled {
 }
 
 impl Compiled {
-    /// Puts the indexes of the tokens that match a text into a set, beside what it holds.
+    /// Puts the indexes of the tokens that match a text into a set, next to its contents.
     ///
     /// It is at most `(text bytes + 1) * (states + 3 * starts)` visits. What the sets of states held has no effect; their room
-    /// grows to the states, if these are stepped. Returns an error if memory runs out, and so none if they have room for all
-    /// states; some of the indexes may be in the set then.
+    /// grows to the states, if these are stepped. It allocates nothing if they have room for all states; some of the indexes may
+    /// be in the set then.
     pub fn find(
         &self,
         text: &[u8],
@@ -159,8 +159,7 @@ impl Compiled {
     /// Returns whether tokens match a text.
     ///
     /// It is at most `(text bytes + 1) * (states + 3 * starts)` visits. What the sets of states held has no effect; their room
-    /// grows to the states, if these are stepped. Returns an error if memory runs out, and so none if they have room for all
-    /// states.
+    /// grows to the states, if these are stepped. It allocates nothing if they have room for all states.
     pub fn is_match(
         &self,
         text: &[u8],
@@ -187,8 +186,7 @@ impl Compiled {
     /// Returns whether some tokens match a text that begins with `text` and then `byte`.
     ///
     /// It is at most `(text bytes + 2) * (states + 3 * starts)` visits. What the sets of states held has no effect; their room
-    /// grows to the states, if these are stepped. Returns an error if memory runs out, and so none if they have room for all
-    /// states.
+    /// grows to the states, if these are stepped. It allocates nothing if they have room for all states.
     pub fn can_match_after(
         &self,
         text: &[u8],
@@ -222,7 +220,7 @@ impl Compiled {
 }
 
 impl Compiled {
-    /// The same as [`Compiled::find`], by the rows of a cache if there is one.
+    /// Like [`Compiled::find`], by the rows of a cache if there is one.
     ///
     /// It takes memory, and so returns an error if it runs out, only if the sets of states have no room for all states.
     pub fn find_with(
@@ -252,7 +250,7 @@ impl Compiled {
         Ok(())
     }
 
-    /// The same as [`Compiled::is_match`], by the rows of a cache if there is one.
+    /// Like [`Compiled::is_match`], by the rows of a cache if there is one.
     ///
     /// It takes memory, and so returns an error if it runs out, only if the sets of states have no room for all states.
     pub fn is_match_with(
@@ -279,7 +277,7 @@ impl Compiled {
         Ok(rows.is_match(text, visits))
     }
 
-    /// The same as [`Compiled::can_match_after`], by the rows of a cache if there is one.
+    /// Like [`Compiled::can_match_after`], by the rows of a cache if there is one.
     ///
     /// It takes memory, and so returns an error if it runs out, only if the sets of states have no room for all states.
     pub fn can_match_after_with(

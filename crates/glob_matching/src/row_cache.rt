@@ -89,9 +89,9 @@ impl RowCache {
         self.cache.bytes()
     }
 
-    /// Puts the index of each end that a text leads to into a set, beside what it holds.
+    /// Puts the index of each end that a text leads to into a set, next to its contents.
     ///
-    /// It is at most `(text bytes + 1) * (states + 1)` visits. It takes no memory.
+    /// It is at most `(text bytes + 1) * (states + 1)` visits. It does not allocate.
     pub(crate) fn find(&mut self, text: &[u8], found: &mut IndexSet, visits: &mut Visits)
         requires { self.old.index_count ≤ index_capacity found.old }
         ensures same { self.new ≡ self.old }
@@ -103,8 +103,8 @@ impl RowCache {
         self.cache.find(&self.dfa, text, found, visits);
     }
 
-    /// The same as [`RowCache::find`] by entries that are known. Returns whether they are all known that it needs; if not, some of
-    /// the indexes may be in the set.
+    /// Like [`RowCache::find`] by entries that are known. Returns whether they are all known that it needs; if not, some of the
+    /// indexes may be in the set.
     ///
     /// It is at most one visit for each byte of the text, and one.
     pub(crate) fn find_known(&self, text: &[u8], found: &mut IndexSet, visits: &mut Visits) -> bool
@@ -120,7 +120,7 @@ impl RowCache {
 
     /// Returns whether a text leads to some end.
     ///
-    /// It is at most `(text bytes + 1) * (states + 1)` visits. It takes no memory.
+    /// It is at most `(text bytes + 1) * (states + 1)` visits. It does not allocate.
     pub(crate) fn is_match(&mut self, text: &[u8], visits: &mut Visits) -> bool
         ensures same { self.new ≡ self.old }
         ensures some { IsTrue result ↔ ((k : ℕ) × IsReached self.old text.now k) }
@@ -130,7 +130,7 @@ impl RowCache {
         self.cache.is_match(&self.dfa, text, visits)
     }
 
-    /// The same as [`RowCache::is_match`] by entries that are known. Returns `None` if one that it needs is not.
+    /// Like [`RowCache::is_match`] by entries that are known. Returns `None` if one that it needs is not.
     ///
     /// It is at most one visit for each byte of the text, and one.
     pub(crate) fn is_match_known(&self, text: &[u8], visits: &mut Visits) -> Option<bool>
@@ -144,7 +144,7 @@ impl RowCache {
 
     /// Returns whether some text that begins with `text` and then `byte` leads to some end.
     ///
-    /// It is at most `(text bytes + 2) * (states + 1)` visits. It takes no memory.
+    /// It is at most `(text bytes + 2) * (states + 1)` visits. It does not allocate.
     pub(crate) fn can_match_after(&mut self, text: &[u8], byte: u8, visits: &mut Visits) -> bool
         ensures same { self.new ≡ self.old }
         ensures some { IsTrue result ↔ MatchesAfter self.old (text.now ++ byte ∷ []) }
@@ -154,7 +154,7 @@ impl RowCache {
         self.cache.can_match_after(&self.dfa, text, byte, visits)
     }
 
-    /// The same as [`RowCache::can_match_after`] by entries that are known. Returns `None` if one that it needs is not.
+    /// Like [`RowCache::can_match_after`] by entries that are known. Returns `None` if one that it needs is not.
     ///
     /// It is at most one visit for each byte of the text, and one, and then one for each state.
     pub(crate) fn can_match_after_known(

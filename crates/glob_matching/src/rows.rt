@@ -50,8 +50,8 @@ impl RowSource {
     /// Returns what rows of an automaton are made from, by `sharing`, which leads to the same ends.
     ///
     /// At most four caches are kept between calls, which take at most the share of `dfa_size_limit` bytes that the states have in
-    /// `all_states`. It takes time and memory linear in the states. Returns `None` if the share is too small or there are too many
-    /// states or indexes, and an error if memory runs out.
+    /// `all_states`. It takes time and memory linear in the states. Returns `None` if the share is too small or there are too
+    /// many states or indexes.
     pub fn new(
         alloc: Global,
         dfa_size_limit: usize,
@@ -79,7 +79,7 @@ impl RowSource {
         }))
     }
 
-    /// Returns a cache with no rows. All memory that it needs is taken here. Returns an error if memory runs out.
+    /// Returns a cache with no rows. All memory that it needs is taken here.
     pub fn new_cache(&self, alloc: Global) -> Result<RowCache, AllocError>
         ensures { IfOk result (λ cache. cache ≡ self.now) }
     {
@@ -102,7 +102,7 @@ impl RowSource {
         }
     }
 
-    /// Takes a cache that is kept for one call. If there is none and memory may be taken, it makes one, but for the first calls.
+    /// Takes a cache that is kept for one call. If there is none and memory may be taken, it makes one, except the first calls.
     fn take(&self, may_make: bool) -> Option<Kept>
         ensures { IfSome result (λ kept. kept.cache.value ≡ self.now) }
     {
@@ -145,9 +145,9 @@ impl RowSource {
 }
 
 impl RowSource {
-    /// Puts the index of each end that a text leads to into a set, beside what it holds, by the rows of the cache that was
-    /// published last, or, where an entry is not known there, by those of a cache that is kept. Returns whether there was one, or,
-    /// if memory may be taken, one could be made. If not, some of the indexes may be in the set.
+    /// Puts the index of each end that a text leads to into a set, next to its contents, by the rows of the cache that was
+    /// published last, or, where an entry is not known there, by those of a cache that is kept. Returns whether there was one,
+    /// or, if memory may be taken, one could be made. If not, some of the indexes may be in the set.
     pub fn find(
         &self,
         text: &[u8],

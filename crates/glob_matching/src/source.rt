@@ -31,8 +31,7 @@ impl Model for Source {
 }
 
 impl Source {
-    /// Returns what is known of an automaton. It reads each state, and takes a bit of memory for each until it returns. Returns an
-    /// error if memory runs out.
+    /// Returns what is known of an automaton. It reads each state, and takes a bit of memory for each until it returns.
     pub fn of(automaton: &Nfa) -> Result<Source, AllocError>
         ensures { IfOk result (λ source. source ≡ automaton.now) }
     {

@@ -52,7 +52,7 @@ impl Memory {
 
 /// Looks for a path of a domain that an automaton reads to ends of all indexes below `required`, and to no end of `required`.
 ///
-/// It stops when there are more rows than the limit. Returns an error if memory runs out.
+/// It stops when there are more rows than the limit.
 pub fn search(
     alloc: Global,
     automaton: &Nfa,

@@ -40,8 +40,6 @@ pub enum MatchStrategy {
 
 /// Returns by what a set decides a glob with these tokens: the first strategy that fits. It takes memory for a key or an extension,
 /// and time linear in the tokens.
-///
-/// Returns an error if memory runs out, and no other.
 pub fn strategy_of(
     alloc: Global,
     options: Options,

@@ -38,7 +38,7 @@ pub fn bad_range(body: &[char]) -> Option<ParseErrorKind>
     }
 }
 
-/// Returns the ranges of a class's body. Returns an error if memory runs out.
+/// Returns the ranges of a class's body.
 #[tactic(auto, unfolding(crate::specs::Ranges::ranges))]
 pub fn ranges(alloc: Global, body: &[char]) -> Result<Vec<(char, char)>, AllocError>
     ensures { IfOk result (λ v. v.items ≡ ranges body.now) }
@@ -109,8 +109,6 @@ impl Class {
 
     /// Returns the class of these ranges. This takes a step for each byte that a range contains, and memory for a table of 256
     /// entries.
-    ///
-    /// Returns an error if memory runs out.
     pub fn new(alloc: Global, negated: bool, ranges: Vec<(char, char)>) -> Result<Class, AllocError>
         ensures { IfOk result (λ c. c ≡ record { negated = negated; ranges = ranges.items }) }
     {
@@ -153,8 +151,6 @@ impl Class {
     }
 
     /// Returns an equal class with memory of its own.
-    ///
-    /// Returns an error if memory runs out.
     pub fn clone(&self, alloc: Global) -> Result<Class, AllocError>
         ensures { IfOk result (λ c. c ≡ self.now) }
     {

@@ -57,7 +57,7 @@ fn utf8_len(characters: &[char]) -> usize
 /// - the `\` at the end of the text;
 /// - the outermost `{` that is still open at the end of the text.
 ///
-/// This takes time and memory linear in the length of the text. Returns an error if memory runs out.
+/// This takes time and memory linear in the length of the text.
 pub fn error_offset(
     alloc: Global,
     options: Options,

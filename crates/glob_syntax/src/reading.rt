@@ -16,7 +16,7 @@ use crate::parse_error_kind::ReadError;
 use crate::token::Token;
 use std::alloc::{AllocError, Global};
 
-/// Returns the characters of a text. Returns an error if memory runs out.
+/// Returns the characters of a text.
 pub fn characters(alloc: Global, text: &str) -> Result<Vec<char>, AllocError>
     ensures { IfOk result (λ v. v.items ≡ chars text.now) }
 {

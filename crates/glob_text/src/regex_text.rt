@@ -13,7 +13,7 @@ use std::alloc::{AllocError, Global};
 /// The most bytes of what stands around the text of the tokens: the flags, `^` and `$`.
 const AROUND: usize = 11;
 
-/// Returns the text of a glob's tokens, in time linear in the tokens. Returns an error if memory runs out.
+/// Returns the text of a glob's tokens, in time linear in the tokens.
 pub fn regex_of_tokens(
     alloc: Global,
     options: Options,

@@ -122,8 +122,8 @@ impl GlobMatcher {
         Ok(self.is_match_in(path, &mut sets, visits)?)
     }
 
-    /// The same, in sets of the caller. Returns an error if memory runs out, and none if the sets have room for as many states
-    /// as the automaton of such a glob may have.
+    /// The same, in sets of the caller. It allocates nothing if the sets have room for as many states as the automaton of such a
+    /// glob may have.
     fn is_match_in(
         &self,
         path: &Candidate<'_>,
@@ -232,7 +232,7 @@ impl GlobMatcher {
         Ok(GlobMatcher { glob, strategy })
     }
 
-    /// Returns what it decides by, once more. It shares the automaton. Returns an error if memory runs out.
+    /// Returns what it decides by, once more. It shares the automaton.
     fn copy_strategy(&self) -> Result<Strategy, AllocError>
         ensures { IfOk result (IsStrategyOfMatcher self.now) }
     {

@@ -1,5 +1,5 @@
 -- Character classes of ignore files, read as characters: what the crate reads of a line in UTF-8. All that means something in a
--- class is ASCII, so what git reads of the bytes of the characters is the same, but for the ranges that `is_odd_range` finds.
+-- class is ASCII, so what git reads of the bytes of the characters is the same, except the ranges that `is_odd_range` finds.
 use Rattle.std.specs.Prelude.{ℕ, zero, suc, ◌%◌, Bool, false, not, ◌&&◌, ◌==◌, nat_le, nat_lt, List, [], ◌∷◌, Option, Some, None, if◌then◌else◌, encode_utf8}
 use Rattle.std.specs.List.{list_any}
 use Rattle.globset_glob.specs.ClassBytes.{is_one_of, is_spanned}

@@ -252,8 +252,6 @@ fn push_positive(out: &mut String, start: &[char], end: &[char]) -> Result<bool,
 
 /// Writes a class of a pattern as a class of a glob, or as a choice in braces. Returns whether anything is in it. This takes
 /// 128 steps for each item, and memory for the items' characters.
-///
-/// Returns an error if memory runs out.
 #[tactic(auto, unfolding(crate::specs::Translation::class_text))]
 pub fn push_class(
     alloc: Global,

@@ -137,7 +137,7 @@ fn escaped_at(cs: &[char]) -> Option<ElementAt>
 }
 
 /// Returns what is at `c`, before `cs`; `None` if it cannot be read. `whole` says whether the pattern is matched against whole
-/// paths. Returns an error if memory runs out.
+/// paths.
 #[tactic(auto, unfolding(crate::specs::CharacterElements::element_at))]
 pub fn element_at(
     alloc: Global,

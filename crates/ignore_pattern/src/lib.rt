@@ -39,7 +39,7 @@
 //!
 //! # Differences from git
 //!
-//! The definition says what git reads a line as, byte by byte. A glob can stand for each pattern, but for those of two kinds of
+//! The definition says what git reads a line as, byte by byte. A glob can stand for each pattern, except those of two kinds of
 //! lines, and for these nothing is returned:
 //!
 //! - A line that is not UTF-8, as the text of a glob is.

@@ -26,7 +26,7 @@ pub struct IgnorePattern {
 /// Returns `None` if the line has no pattern, if its pattern matches nothing, or if no glob can stand for it: if it is not UTF-8, or
 /// has a range of the bytes from BF to C2.
 ///
-/// This takes memory linear in the length of the line, and time linear in it but for classes: 128 steps for each item of one, and
+/// This takes memory linear in the length of the line, and time linear in it except classes: 128 steps for each item of one, and
 /// for each `[:` in one a search for the next `]`.
 ///
 /// # Errors

@@ -14,8 +14,6 @@ use std::alloc::{AllocError, Global};
 
 /// Returns the text of the glob for a pattern of these characters; `None` if the pattern cannot be read or matches nothing, or
 /// there are no characters. `whole` says whether the pattern is matched against whole paths.
-///
-/// Returns an error if memory runs out.
 pub fn text_of(alloc: Global, whole: bool, cs: &[char]) -> Result<Option<String>, AllocError>
     ensures { IfOk result
         (λ r. option_map string_bytes r

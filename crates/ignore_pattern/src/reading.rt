@@ -23,8 +23,7 @@ pub struct PatternText {
     pub is_folders_only: bool,
 }
 
-/// Returns what a line says, without its line feed; `None` if it has no pattern, or its pattern matches nothing. Returns an error
-/// if memory runs out.
+/// Returns what a line says, without its line feed; `None` if it has no pattern, or its pattern matches nothing.
 pub fn read_line(alloc: Global, line: &[u8]) -> Result<Option<PatternText>, AllocError>
     ensures { IfOk result (λ r. option_map with_glob r ≡ glob_of_line line.now) }
 {
@@ -37,7 +36,7 @@ pub fn read_line(alloc: Global, line: &[u8]) -> Result<Option<PatternText>, Allo
     }
 }
 
-/// Returns the characters of a text. Returns an error if memory runs out.
+/// Returns the characters of a text.
 fn characters(alloc: Global, text: &str) -> Result<Vec<char>, AllocError>
     ensures { IfOk result (λ v. v.items ≡ chars text.now) }
 {

@@ -100,8 +100,6 @@ fn push_next(
 }
 
 /// Writes the elements of these characters. Returns false if one cannot be read, or matches nothing.
-///
-/// Returns an error if memory runs out.
 pub fn push_elements(
     alloc: Global,
     out: &mut String,

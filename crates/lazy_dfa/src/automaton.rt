@@ -21,8 +21,8 @@ use std::snapshot::Snapshot;
 /// An automaton as it is run. A [`Cache`](crate::Cache) makes its rows.
 #[derive(Drop)]
 pub struct LazyDfa {
-    /// The automaton with an end in place of each state that decides an index. So an index that is decided takes no state any more,
-    /// but for those from which it is decided again.
+    /// The automaton with an end instead of each state that decides an index. So an index that is decided takes no state any
+    /// more, except those from which it is decided again.
     pub(crate) automaton: Nfa,
     pub(crate) classes: ByteClasses,
     /// The states from which some bytes lead to an end.
@@ -84,11 +84,11 @@ impl LazyDfa {
         self.automaton.starts().len()
     }
 
-    /// Puts the index of each end that a text leads to into a set, beside what it holds. It steps from one set of states to the next,
-    /// and makes no rows.
+    /// Puts the index of each end that a text leads to into a set, next to its contents. It steps from one set of states to the
+    /// next, and makes no rows.
     ///
-    /// What the sets of states held has no effect; their room grows to the states. It is at most `(text bytes + 1) * states` visits.
-    /// Returns an error if memory runs out, and so none if they have room for all states.
+    /// What the sets of states held has no effect; their room grows to the states. It is at most `(text bytes + 1) * states`
+    /// visits. It allocates nothing if they have room for all states.
     pub fn find(
         &self,
         text: &[u8],

@@ -61,7 +61,7 @@ impl Cache {
         self.rows.bytes()
     }
 
-    /// Takes over the rows that another cache has, if there is room for all of them. It takes no memory.
+    /// Takes over the rows that another cache has, if there is room for all of them. It does not allocate.
     pub fn take_over(&mut self, dfa: &LazyDfa, other: &Cache)
         requires same { dfa.now ≡ self.old }
         requires other { other.now ≡ self.old }
@@ -70,11 +70,11 @@ impl Cache {
         self.rows.take_over(&dfa.automaton, &other.rows);
     }
 
-    /// Puts the index of each end that a text leads to into a set, beside what it holds.
+    /// Puts the index of each end that a text leads to into a set, next to its contents.
     ///
-    /// An entry that is there is one visit. Where there is none yet, each state of the automaton is read at most once, which is one
-    /// visit, and a row is looked up, which is one more. So it is at most `(text bytes + 1) * (states + 1)` visits. It takes no
-    /// memory: if there is no room for a row, all rows are forgotten, which is no visit.
+    /// An entry that is there is one visit. Where there is none yet, each state of the automaton is read at most once, which is
+    /// one visit, and a row is looked up, which is one more. So it is at most `(text bytes + 1) * (states + 1)` visits. It does
+    /// not allocate: if there is no room for a row, all rows are forgotten, which is no visit.
     pub fn find(&mut self, dfa: &LazyDfa, text: &[u8], found: &mut IndexSet, visits: &mut Visits)
         requires same { dfa.now ≡ self.old }
         requires room { self.old.index_count ≤ index_capacity found.old }
@@ -90,8 +90,8 @@ impl Cache {
             .find(&dfa.automaton, &dfa.indexes, text, found, visits);
     }
 
-    /// The same as [`Cache::find`] by entries that are there. Returns whether all that it needs are; if not, some of the indexes are
-    /// put into the set. It is at most one visit for each byte and one more.
+    /// Like [`Cache::find`] by entries that are there. Returns whether all that it needs are; if not, some of the indexes are put
+    /// into the set. It is at most one visit for each byte and one more.
     pub fn find_known(
         &self,
         dfa: &LazyDfa,
@@ -117,7 +117,7 @@ impl Cache {
 
     /// Returns whether a text leads to some end. It stops at the first that is found whatever follows.
     ///
-    /// It is as many visits as [`Cache::find`] makes, and takes no memory.
+    /// It is as many visits as [`Cache::find`] makes, and does not allocate.
     pub fn is_match(&mut self, dfa: &LazyDfa, text: &[u8], visits: &mut Visits) -> bool
         requires { dfa.now ≡ self.old }
         ensures same { self.new ≡ self.old }
@@ -128,8 +128,8 @@ impl Cache {
         self.rows.is_match(&dfa.automaton, text, visits)
     }
 
-    /// The same as [`Cache::is_match`] by entries that are there. Returns `None` if one that it needs is not. It is at most one
-    /// visit for each byte and one more.
+    /// Like [`Cache::is_match`] by entries that are there. Returns `None` if one that it needs is not. It is at most one visit
+    /// for each byte and one more.
     pub fn is_match_known(&self, dfa: &LazyDfa, text: &[u8], visits: &mut Visits) -> Option<bool>
         requires { dfa.now ≡ self.now }
         ensures some { IfSome result
@@ -142,7 +142,7 @@ impl Cache {
 
     /// Returns whether some text that begins with `text` and then `byte` leads to some end.
     ///
-    /// It is as many visits for each byte as [`Cache::find`] makes, and at most one more for each state. It takes no memory.
+    /// It is as many visits for each byte as [`Cache::find`] makes, and at most one more for each state. It does not allocate.
     pub fn can_match_after(
         &mut self,
         dfa: &LazyDfa,
@@ -160,7 +160,7 @@ impl Cache {
             .can_match_after(&dfa.automaton, &dfa.live, text, byte, visits)
     }
 
-    /// The same as [`Cache::can_match_after`] by entries that are there. Returns `None` if one that it needs is not. It is at most one
+    /// Like [`Cache::can_match_after`] by entries that are there. Returns `None` if one that it needs is not. It is at most one
     /// visit for each byte and one more, and one for each state.
     pub fn can_match_after_known(
         &self,

@@ -118,7 +118,7 @@ pub struct Rows {
 }
 
 impl Rows {
-    /// Returns no rows, with room for as many as fit so many bytes, and for one in each case. Returns an error if memory runs out.
+    /// Returns no rows, with room for as many as fit so many bytes, and for one in each case.
     pub fn new(
         alloc: Global,
         automaton: &Nfa,

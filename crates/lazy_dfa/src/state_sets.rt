@@ -35,8 +35,7 @@ impl StateSets {
         states <= self.reserved
     }
 
-    /// Makes room for so many states, if there is less. It takes two bits of memory for each. Returns an error if memory runs
-    /// out.
+    /// Makes room for so many states, if there is less. It takes two bits of memory for each.
     pub fn reserve(&mut self, states: usize) -> Result<(), AllocError>
         ensures ok { OnOk result (states ≤ sets_capacity self.new) }
         ensures kept { sets_capacity self.old ≤ sets_capacity self.new }

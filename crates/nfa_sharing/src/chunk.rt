@@ -8,7 +8,7 @@ ghost use Rattle.nfa_sharing.specs.inner.Chunks.{with_next, IsChunk};
 use byte_nfa::{Nfa, StateRef};
 use std::alloc::{AllocError, Global};
 
-/// States that follow each other in a list, and are alike but for what they go on to.
+/// States that follow each other in a list, and are alike except what they go on to.
 #[derive(Drop)]
 pub struct Chunk {
     /// The first of these states.
@@ -59,7 +59,7 @@ impl Chunk {
     }
 }
 
-/// Returns what a state goes on to, if it is like another but for that. An end goes on to nothing: 0 stands for that.
+/// Returns what a state goes on to, if it is like another except that. An end goes on to nothing: 0 stands for that.
 fn next_of(automaton: &Nfa, s: usize, like: &StateRef<'_>) -> Option<usize>
     ensures { IfSome result
         (λ next. state automaton.now.states s ≡ with_next (is_read like.now) next) }

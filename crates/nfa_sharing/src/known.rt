@@ -25,7 +25,7 @@ pub struct KnownLists {
 }
 
 impl KnownLists {
-    /// Returns no lists, for those of states below a count. Returns an error if memory runs out.
+    /// Returns no lists, for those of states below a count.
     pub fn new(alloc: Global, state_count: usize) -> Result<KnownLists, AllocError>
         ensures { IfOk result (λ known. known.entries.items ≡ []) }
     {
@@ -59,7 +59,7 @@ impl KnownLists {
         }
     }
 
-    /// Keeps the place of the entry of a list. Returns an error if memory runs out.
+    /// Keeps the place of the entry of a list.
     fn keep_place(&mut self, list: &[usize], place: usize) -> Result<(), AllocError>
         ensures { self.new.entries.items ≡ self.old.entries.items }
     {
@@ -76,7 +76,7 @@ impl KnownLists {
         Ok(())
     }
 
-    /// Adds a list and its state. Returns an error if memory runs out.
+    /// Adds a list and its state.
     pub fn add(&mut self, list: Vec<usize>, state: usize) -> Result<(), AllocError>
         ensures { OnOk result
             ((l : List ℕ) (u : ℕ) → IsKnown self.new.entries.items l u

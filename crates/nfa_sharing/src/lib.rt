@@ -24,7 +24,7 @@ use std::alloc::{AllocError, Global};
 /// states.
 ///
 /// Returns `None` if there are no starts, or if that takes more states than there are, or more work than is linear in the states.
-/// Returns an error if memory runs out. It takes memory linear in the automaton.
+/// It takes memory linear in the automaton.
 pub fn shared(alloc: Global, automaton: &Nfa) -> Result<Option<Nfa>, AllocError>
     ensures { IfOk result (λ made. IfSome made (λ new. Shares automaton.now new)) }
 {

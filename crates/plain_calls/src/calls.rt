@@ -91,7 +91,7 @@ impl Job<'_> {
         measured.write(call, self.paths.len().div_ceil(piece))
     }
 
-    /// Writes a count in place of what was measured.
+    /// Writes a count instead of what was measured.
     fn count(&self, call: &str, found: usize) -> Result<()> {
         println!(self.rt; "{call}\t{found}")?;
         Ok(())

@@ -218,7 +218,7 @@ impl Globs {
         }
     }
 
-    /// Reads a set from a JSON text, in place of the set. Returns `reads` and its length; or `fails`, the index and the error.
+    /// Reads a set from a JSON text, instead of the set. Returns `reads` and its length; or `fails`, the index and the error.
     fn array(&mut self, columns: &mut Columns<'_>) -> Result<String, Fault> {
         let value = json(self.alloc, columns)?;
         match GlobSet::from_value(self.alloc, &value) {
@@ -243,7 +243,7 @@ impl Globs {
     }
 }
 
-/// Returns `yes` or `no` in place of the columns that a set of one glob answers, or these columns where its matcher differs.
+/// Returns `yes` or `no` instead of the columns that a set of one glob answers, or these columns where its matcher differs.
 fn answer_of_one(columns: &str) -> &str {
     match columns {
         "0\tyes\t0" => "yes",

@@ -7,7 +7,7 @@ use crate::column::Columns;
 use crate::fault::Fault;
 use std::alloc::{AllocError, Global};
 
-/// Replays a row. Returns what was returned in place of what the row says, or `None` where it is the same.
+/// Replays a row. Returns what was returned instead of what the row says, or `None` where it is the same.
 pub fn replay(alloc: Global, globs: &mut Globs, row: &str) -> Result<Option<String>, AllocError> {
     match compared(alloc, globs, row) {
         Ok(other) => Ok(other),

@@ -89,8 +89,7 @@ impl Automata {
         self.extensions.keep_caches();
     }
 
-    /// Returns caches with no rows for the automata, where runs need one. All memory that they
-    /// need is taken here. Returns an error if memory runs out.
+    /// Returns caches with no rows for the automata, where runs need one. All memory that they need is taken here.
     pub fn new_caches(&self, alloc: Global) -> Result<Caches, AllocError>
         ensures { IfOk result (λ caches. AreCachesOf self.now caches) }
     {
@@ -104,7 +103,7 @@ impl Automata {
     /// Returns whether an automaton has to be run, and if so, marks the indexes of the globs that match the path, and no others. If
     /// not, no glob matches, and the sets stay as they are.
     ///
-    /// The sets get room for each index, and for each state of an automaton that is stepped. Returns an error if memory runs out.
+    /// The sets get room for each index, and for each state of an automaton that is stepped.
     pub fn find(
         &self,
         path: &PathParts<'_>,
@@ -159,7 +158,7 @@ impl Automata {
 
     /// Returns whether some glob matches the path.
     ///
-    /// The sets get room for each state of an automaton that is stepped. Returns an error if memory runs out.
+    /// The sets get room for each state of an automaton that is stepped.
     pub fn is_match(
         &self,
         path: &PathParts<'_>,
@@ -300,8 +299,7 @@ impl AutomataBuilder {
         }
     }
 
-    /// Adds tokens that the whole path has to match. It takes time and memory linear in the tokens. Returns an error if memory
-    /// runs out.
+    /// Adds tokens that the whole path has to match. It takes time and memory linear in the tokens.
     pub fn add_by_path(
         &mut self,
         alloc: Global,
@@ -326,8 +324,7 @@ impl AutomataBuilder {
         added
     }
 
-    /// Adds tokens that the last component of a path has to match. It takes time and memory linear in the tokens. Returns an
-    /// error if memory runs out.
+    /// Adds tokens that the last component of a path has to match. It takes time and memory linear in the tokens.
     pub fn add_by_component(
         &mut self,
         alloc: Global,
@@ -353,8 +350,7 @@ impl AutomataBuilder {
         added
     }
 
-    /// Adds tokens that a path has to match whose last component has an extension. It takes time and memory linear in the
-    /// tokens. Returns an error if memory runs out.
+    /// Adds tokens that a path has to match whose last component has an extension. It takes time and memory linear in the tokens.
     pub fn add_by_extension(
         &mut self,
         alloc: Global,
@@ -386,8 +382,8 @@ impl AutomataBuilder {
         added
     }
 
-    /// Returns what was added, or `None` if nothing was. The rows that are kept between calls take at most `dfa_size_limit` bytes.
-    /// Returns an error if memory runs out.
+    /// Returns what was added, or `None` if nothing was. The rows that are kept between calls take at most `dfa_size_limit`
+    /// bytes.
     pub fn finish(
         self,
         alloc: Global,

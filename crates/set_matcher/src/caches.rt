@@ -121,7 +121,7 @@ impl SlotCaches {
         bytes
     }
 
-    /// The same as [`run`], on the bytes before the extension of the path, with the cache of the automaton's slot. Where there is no
+    /// Like [`run`], on the bytes before the extension of the path, with the cache of the automaton's slot. Where there is no
     /// slot, the automaton has no states.
     pub fn run(
         &mut self,
@@ -158,8 +158,8 @@ impl SlotCaches {
         run(part, automaton, path, sets, &mut None, marks, visits)
     }
 
-    /// The same as [`matches_part`], on the bytes before the extension of the path, with the cache of the automaton's slot. Where
-    /// there is no slot, the automaton has no states.
+    /// Like [`matches_part`], on the bytes before the extension of the path, with the cache of the automaton's slot. Where there
+    /// is no slot, the automaton has no states.
     pub fn matches(
         &mut self,
         slot: Option<usize>,
@@ -191,7 +191,7 @@ impl SlotCaches {
         matches_part(part, automaton, path, sets, &mut None, visits)
     }
 
-    /// The same as [`Compiled::can_match_after_with`], with the cache of the automaton's slot.
+    /// Like [`Compiled::can_match_after_with`], with the cache of the automaton's slot.
     pub fn can_match_after(
         &mut self,
         slot: usize,

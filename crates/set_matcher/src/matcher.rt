@@ -26,7 +26,7 @@ use std::marker::Model;
 use std::sync::Arc;
 
 /// What a set needs to match: its globs, grouped by what decides each of them. The index of a glob is its position. Of the globs
-/// themselves nothing is kept but what contracts see, which takes no memory.
+/// themselves nothing is kept but what contracts see, which allocates nothing.
 ///
 /// Contracts see the set, and the automata, so that it can be said which of them a cache is of.
 #[derive(Drop)]
@@ -91,7 +91,7 @@ impl SetMatcher {
         Scratch::empty(self.alloc)
     }
 
-    /// Returns caches with no rows for this matcher. All memory that they need is taken here. Returns an error if memory runs out.
+    /// Returns caches with no rows for this matcher. All memory that they need is taken here.
     pub fn new_caches(&self, alloc: Global) -> Result<Caches, AllocError>
         ensures { IfOk result (λ caches. AreCachesOf self.now.automata caches) }
     {
@@ -145,8 +145,7 @@ impl SetMatcherBuilder {
     /// Adds a glob after those that were added: its text, its options, and the tokens that the text was read as. Its index is the
     /// number of globs before it.
     ///
-    /// It takes time and memory linear in the tokens. Returns an error if memory runs out. Then the builder has no globs, and as
-    /// many may be added as at first.
+    /// It takes time and memory linear in the tokens. Then the builder has no globs, and as many may be added as at first.
     pub fn add(
         &mut self,
         text: &String,
@@ -187,8 +186,8 @@ impl SetMatcherBuilder {
         Ok(())
     }
 
-    /// Returns the matcher of the globs that were added, which sets and searchers share. The rows that it keeps take at most `dfa_size_limit` bytes. Returns an
-    /// error if memory runs out.
+    /// Returns the matcher of the globs that were added, which sets and searchers share. The rows that it keeps take at most
+    /// `dfa_size_limit` bytes.
     pub fn finish(self, dfa_size_limit: usize) -> Result<Arc<SetMatcher>, AllocError>
         requires { length self.given ≡ self.count }
         ensures { IfOk result (λ matcher. set_globs (arc_value matcher).set ≡ self.given) }

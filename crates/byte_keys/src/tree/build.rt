@@ -25,7 +25,7 @@ struct Span {
 }
 
 impl Tree {
-    /// Returns a tree of texts, which are in order. Returns an error if memory runs out.
+    /// Returns a tree of texts, which are in order.
     pub fn build(alloc: Global, texts: &[Text]) -> Result<Tree, AllocError>
         requires { IsOrdered texts.now 0 0 (length texts.now) }
         ensures tree { IfOk result IsTree }

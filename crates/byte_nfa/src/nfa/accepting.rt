@@ -29,7 +29,7 @@ impl Nfa {
         }
     }
 
-    /// Returns a set that has the last byte of each text that leads to some end. Returns an error if memory runs out.
+    /// Returns a set that has the last byte of each text that leads to some end.
     ///
     /// It has no byte by which no state goes on to one that leads to an end without a byte. It reads each state, and takes a
     /// bit of memory for each until it returns.

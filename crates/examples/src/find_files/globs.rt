@@ -39,7 +39,7 @@ impl Globs {
         })
     }
 
-    /// Returns what a walk does with a path. It takes no memory.
+    /// Returns what a walk does with a path. It does not allocate.
     pub fn wanted(&mut self, path: &str) -> Wanted {
         let path = Candidate::new(path);
         Wanted {

@@ -41,8 +41,7 @@ impl<'a> Named<'a> {
     }
 }
 
-/// Inserts a file after those of its folder, and those of folders with a path that is no longer. Returns an error if memory runs
-/// out.
+/// Inserts a file after those of its folder, and those of folders with a path that is no longer.
 fn insert_by_depth(files: &mut Vec<IgnoreFile>, file: IgnoreFile) -> Result<(), AllocError> {
     let depth = file.folder().len();
     let before = files.iter().take_while(|it| it.folder().len() <= depth);

@@ -12,8 +12,7 @@ struct Found {
     line: DecidingLine,
 }
 
-/// Adds what decides about each path, and the path. The files are in the order of [`super::arguments::Named::open`]. Returns an
-/// error if memory runs out.
+/// Adds what decides about each path, and the path. The files are in the order of [`super::arguments::Named::open`].
 pub fn push_deciding(
     alloc: Global,
     files: &mut [IgnoreFile],
@@ -31,7 +30,7 @@ pub fn push_deciding(
     Ok(())
 }
 
-/// Adds the file, the number and the text of a line, each with what ends it. Returns an error if memory runs out.
+/// Adds the file, the number and the text of a line, each with what ends it.
 fn push_found(
     alloc: Global,
     files: &[IgnoreFile],

@@ -12,8 +12,6 @@ use glob_syntax::Token;
 use std::alloc::{AllocError, Global};
 
 /// Returns the bytes of the tokens that are literals, in order. Its memory has no room for more.
-///
-/// Returns an error if memory runs out, and no other.
 pub fn literal_text(alloc: Global, tokens: &[Token]) -> Result<Vec<u8>, AllocError>
     ensures { IfOk result (λ text. text.items ≡ literal_text (flats tokens.now)) }
 {
@@ -21,8 +19,6 @@ pub fn literal_text(alloc: Global, tokens: &[Token]) -> Result<Vec<u8>, AllocErr
 }
 
 /// Returns the bytes of the tokens that are literals, in order, and `/`. Its memory has no room for more.
-///
-/// Returns an error if memory runs out, and no other.
 pub fn literal_text_and_slash(alloc: Global, tokens: &[Token]) -> Result<Vec<u8>, AllocError>
     ensures { IfOk result (λ text. text.items ≡ literal_text (flats tokens.now) ++ slash ∷ []) }
 {

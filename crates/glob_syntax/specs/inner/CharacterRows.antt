@@ -11,7 +11,7 @@ passes [] (c ∷ cs) = false
 passes (test ∷ tests) [] = false
 passes (test ∷ tests) (c ∷ cs) = passes tests cs && test c
 
--- the bytes after the first byte of a character, but for some second ones
+-- the bytes after the first byte of a character, except some second ones
 abbrev pub continues : ℕ → Bool
 continues = is_between (0x80, 0xBF)
 

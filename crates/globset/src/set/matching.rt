@@ -16,7 +16,7 @@ use std::alloc::Global;
 impl GlobSet {
     /// Returns the indexes, ascending, of the globs that match the path. Excluded globs are left out.
     ///
-    /// Returns an error only if memory runs out. It needs no memory if the set has no globs.
+    /// Returns an error only if memory runs out. It allocates nothing if the set has no globs.
     pub fn matches<P: AsPath>(&self, alloc: Global, path: P) -> Result<Vec<usize>, Error>
         ensures ok { IfOk result
             (λ v. v.items ≡ matching_indexes (set_globs self.now) (P.text path)) }
@@ -31,7 +31,7 @@ impl GlobSet {
 
     /// Returns the indexes, ascending, of the globs that match the candidate's path. Excluded globs are left out.
     ///
-    /// Returns an error only if memory runs out. It needs no memory if the set has no globs.
+    /// Returns an error only if memory runs out. It allocates nothing if the set has no globs.
     pub fn matches_candidate(
         &self,
         alloc: Global,
@@ -60,7 +60,7 @@ impl GlobSet {
     /// assert!(rt; indexes.is_empty());
     /// ```
     ///
-    /// Returns an error only if memory runs out; the vector is then empty. It needs no memory if the set has no globs.
+    /// Returns an error only if memory runs out; the vector is then empty. It allocates nothing if the set has no globs.
     pub fn matches_into<P: AsPath>(&self, path: P, into: &mut Vec<usize>) -> Result<(), Error>
         ensures ok { OnOk result
             (into.new.items ≡ matching_indexes (set_globs self.now) (P.text path)) }
@@ -74,7 +74,7 @@ impl GlobSet {
     /// Replaces the vector's items by the indexes that [`GlobSet::matches_candidate`] returns. The vector's capacity is
     /// reused.
     ///
-    /// Returns an error only if memory runs out; the vector is then empty. It needs no memory if the set has no globs.
+    /// Returns an error only if memory runs out; the vector is then empty. It allocates nothing if the set has no globs.
     pub fn matches_candidate_into(
         &self,
         path: &Candidate<'_>,
@@ -97,7 +97,7 @@ impl GlobSet {
     /// The call takes a bit of memory for each glob above the first 64, and two for each state of an automaton that is stepped.
     /// The vector grows for the indexes.
     ///
-    /// Returns an error only if memory runs out; the vector is then empty. It needs no memory if the set has no globs.
+    /// Returns an error only if memory runs out; the vector is then empty. It allocates nothing if the set has no globs.
     pub fn matches_visits(
         &self,
         path: &Candidate<'_>,
@@ -131,8 +131,8 @@ impl GlobSet {
     /// The scratch has to fit the set. It then fits each set that it fitted before, after an error too. The bound on the visits
     /// is the same.
     ///
-    /// Returns an error only if memory runs out; the vector is then empty. It needs no memory if the vector has a capacity
-    /// of [`GlobSet::len`]. The capacity never shrinks, so that later calls need none either.
+    /// Returns an error only if memory runs out; the vector is then empty. It allocates nothing if the vector has a capacity of
+    /// [`GlobSet::len`]. The capacity never shrinks, so that later calls need none either.
     pub fn matches_into_with(
         &self,
         path: &Candidate<'_>,
@@ -166,8 +166,8 @@ impl GlobSet {
     /// To match several sets against one path, or against bytes that are not UTF-8, create a [`Candidate`] and call
     /// [`GlobSet::is_match_candidate`].
     ///
-    /// Returns an error only if memory runs out. It needs no memory if no glob needs an automaton for
-    /// the path: if each of them is direct, or requires an extension that the path lacks.
+    /// Returns an error only if memory runs out. It allocates nothing if no glob needs an automaton for the path: if each of them
+    /// is direct, or requires an extension that the path lacks.
     pub fn is_match<P: AsPath>(&self, path: P) -> Result<bool, Error>
         ensures ok { IfOk result
             (λ yes. IsTrue yes ↔ (matching_indexes (set_globs self.now) (P.text path) ≢ [])) }
@@ -181,8 +181,8 @@ impl GlobSet {
 
     /// Returns whether some glob that is not excluded matches the candidate's path, as [`GlobSet::is_match`] does.
     ///
-    /// Returns an error only if memory runs out. It needs no memory if no glob needs an automaton for
-    /// the path: if each of them is direct, or requires an extension that the path lacks.
+    /// Returns an error only if memory runs out. It allocates nothing if no glob needs an automaton for the path: if each of them
+    /// is direct, or requires an extension that the path lacks.
     pub fn is_match_candidate(&self, path: &Candidate<'_>) -> Result<bool, Error>
         ensures ok { IfOk result
             (λ yes. IsTrue yes ↔ (matching_indexes (set_globs self.now) path.now ≢ [])) }
@@ -201,8 +201,8 @@ impl GlobSet {
     /// no globs. It looks up the path and its parts in four tables and two tries, and runs at most three automata, each once.
     /// Those that are stepped take two bits of memory for each state.
     ///
-    /// Returns an error only if memory runs out. It needs no memory if no glob needs an automaton for the path: if
-    /// each of them is direct, or requires an extension that the path lacks.
+    /// Returns an error only if memory runs out. It allocates nothing if no glob needs an automaton for the path: if each of them
+    /// is direct, or requires an extension that the path lacks.
     pub fn is_match_visits(&self, path: &Candidate<'_>, visits: &mut Visits) -> Result<bool, Error>
         ensures ok { IfOk result
             (λ yes. IsTrue yes ↔ (matching_indexes (set_globs self.now) path.now ≢ [])) }
@@ -251,8 +251,8 @@ impl GlobSet {
     /// Returns whether every glob matches the path and none is excluded: whether [`GlobSet::matches`] would return every
     /// index below [`GlobSet::len`]. It is true if the set has no globs.
     ///
-    /// Returns an error only if memory runs out. It needs no memory if no glob needs an automaton for
-    /// the path: if each of them is direct, or requires an extension that the path lacks.
+    /// Returns an error only if memory runs out. It allocates nothing if no glob needs an automaton for the path: if each of them
+    /// is direct, or requires an extension that the path lacks.
     pub fn matches_all<P: AsPath>(&self, path: P) -> Result<bool, Error>
         ensures ok { IfOk result
             (λ yes. IsTrue yes
@@ -268,8 +268,8 @@ impl GlobSet {
 
     /// Returns whether every glob matches the candidate's path and none is excluded, as [`GlobSet::matches_all`] does.
     ///
-    /// Returns an error only if memory runs out. It needs no memory if no glob needs an automaton for
-    /// the path: if each of them is direct, or requires an extension that the path lacks.
+    /// Returns an error only if memory runs out. It allocates nothing if no glob needs an automaton for the path: if each of them
+    /// is direct, or requires an extension that the path lacks.
     pub fn matches_all_candidate(&self, path: &Candidate<'_>) -> Result<bool, Error>
         ensures ok { IfOk result
             (λ yes. IsTrue yes
@@ -291,8 +291,8 @@ impl GlobSet {
     /// If one of these has states, the call takes a bit of memory for each glob above the first 64, and two for each state of one
     /// that is stepped.
     ///
-    /// Returns an error only if memory runs out. It needs no memory if no glob needs an automaton for the path: if
-    /// each of them is direct, or requires an extension that the path lacks.
+    /// Returns an error only if memory runs out. It allocates nothing if no glob needs an automaton for the path: if each of them
+    /// is direct, or requires an extension that the path lacks.
     pub fn matches_all_visits(
         &self,
         path: &Candidate<'_>,
@@ -356,7 +356,7 @@ impl GlobSet {
     /// For several sets, or for bytes that are not UTF-8, create a [`Candidate`] and call [`GlobSet::can_match_below_candidate`].
     /// A walk makes a [`Searcher`](crate::Searcher) once, whose calls neither allocate nor fail.
     ///
-    /// Returns an error only if memory runs out. It needs no memory if each glob is direct.
+    /// Returns an error only if memory runs out. It allocates nothing if each glob is direct.
     ///
     /// ```rust
     /// use globset::{Glob, GlobSet};
@@ -379,7 +379,7 @@ impl GlobSet {
     /// Returns whether some glob that is not excluded matches some path below the candidate's path, as
     /// [`GlobSet::can_match_below`] does.
     ///
-    /// Returns an error only if memory runs out. It needs no memory if each glob is direct.
+    /// Returns an error only if memory runs out. It allocates nothing if each glob is direct.
     pub fn can_match_below_candidate(&self, folder: &Candidate<'_>) -> Result<bool, Error>
         ensures ok { IfOk result
             (λ yes. IsTrue yes ↔ MatchesBelow (set_globs self.now) folder.now) }
@@ -397,7 +397,7 @@ impl GlobSet {
     /// direct (`16 * glob bytes + 4` under `whole_character`), also if memory runs out; and none if the set has no globs. The
     /// automata of all extensions may be run, each once. Those that are stepped take two bits of memory for each state.
     ///
-    /// Returns an error only if memory runs out. It needs no memory if each glob is direct.
+    /// Returns an error only if memory runs out. It allocates nothing if each glob is direct.
     pub fn can_match_below_visits(
         &self,
         folder: &Candidate<'_>,

@@ -105,7 +105,7 @@ fn read_option(members: &Map<String, Value>, key: &str, default: bool) -> Option
     }
 }
 
-/// Returns the value of a glob with this text and these options. Returns an error if memory runs out.
+/// Returns the value of a glob with this text and these options.
 #[tactic(auto, using(crate::proofs::lemmas::Values::text_of_defaults, crate::proofs::lemmas::Values::object_of_others))]
 pub fn value_of(alloc: Global, text: &str, options: Options) -> Result<Value, AllocError>
     ensures { IfOk result

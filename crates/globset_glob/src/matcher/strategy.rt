@@ -28,7 +28,7 @@ pub enum Strategy {
 
 impl Strategy {
     /// Returns the key of a glob if one decides it, and otherwise an automaton, of which rows of at most `dfa_size_limit` bytes
-    /// are kept between calls. Returns an error if memory runs out.
+    /// are kept between calls.
     pub fn of(glob: &Glob, dfa_size_limit: usize) -> Result<Strategy, AllocError>
         ensures { IfOk result (IsStrategyOfMatcher glob.now) }
     {
@@ -58,7 +58,7 @@ impl Strategy {
         }
     }
 
-    /// Returns sets with room for the states of an automaton. Returns an error if memory runs out.
+    /// Returns sets with room for the states of an automaton.
     pub fn new_sets(&self, alloc: Global) -> Result<StateSets, AllocError>
         ensures { IfOk result (λ sets. form_states self.now ≤ sets_capacity sets) }
     {
@@ -69,8 +69,7 @@ impl Strategy {
         Ok(sets)
     }
 
-    /// Returns a cache with no rows for an automaton, as [`Compiled::new_cache`] does, or `None` if a key decides. Returns an
-    /// error if memory runs out.
+    /// Returns a cache with no rows for an automaton, as [`Compiled::new_cache`] does, or `None` if a key decides.
     pub fn new_cache(&self, alloc: Global) -> Result<Option<RowCache>, AllocError>
         ensures { IfOk result (λ made. IfSome made (IsCacheOf self.now)) }
     {
@@ -81,7 +80,7 @@ impl Strategy {
     }
 
     /// Returns whether the glob matches a path. An automaton runs by the rows of the cache, or, without one, as
-    /// [`Compiled::is_match`] does. Returns an error if memory runs out, and none if a key decides or the sets have room.
+    /// [`Compiled::is_match`] does. It allocates nothing if a key decides or the sets have room.
     pub fn is_match(
         &self,
         path: &Candidate<'_>,
@@ -112,8 +111,8 @@ impl Strategy {
         }
     }
 
-    /// Returns whether the glob matches some path below a folder. It runs as [`Strategy::is_match`] does. Returns an error if
-    /// memory runs out, and none if a key decides or the sets have room.
+    /// Returns whether the glob matches some path below a folder. It runs as [`Strategy::is_match`] does. It allocates nothing if
+    /// a key decides or the sets have room.
     pub fn can_match_below(
         &self,
         folder: &Candidate<'_>,
@@ -143,8 +142,7 @@ impl Strategy {
         }
     }
 
-    /// Returns the strategy of an equal glob: the same automaton, which is shared, or the key once more. Returns an error if
-    /// memory runs out.
+    /// Returns the strategy of an equal glob: the same automaton, which is shared, or the key once more.
     pub fn copy_for(&self, glob: &Glob) -> Result<Strategy, AllocError>
         requires { IsStrategyOfMatcher glob.now self.now }
         ensures { IfOk result (IsStrategyOfMatcher glob.now) }
@@ -156,8 +154,7 @@ impl Strategy {
     }
 }
 
-/// Returns the automaton of a glob, whose tokens have the index 0. Its rows take at most `dfa_size_limit` bytes between calls. Returns
-/// an error if memory runs out.
+/// Returns the automaton of a glob, whose tokens have the index 0. Its rows take at most `dfa_size_limit` bytes between calls.
 fn automaton_of(glob: &Glob, dfa_size_limit: usize) -> Result<Compiled, AllocError>
     ensures { IfOk result (λ a. IsAutomatonOf glob.now a) }
 {

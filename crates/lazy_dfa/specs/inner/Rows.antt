@@ -172,7 +172,7 @@ pub record HasSpace (m : NfaValue) (rows : Rows) : Type 0 where
   pub small : length rows.entries.items + rows.class_count < max_entries
   pub entries : length rows.entries.items + rows.class_count < vec_capacity rows.entries
 
--- the rows are those of an automaton with an end in place of each state of the source that decides an index
+-- the rows are those of an automaton with an end instead of each state of the source that decides an index
 abbrev pub IsCacheOf : NfaValue → Rows → Type 0
 IsCacheOf source rows = (m : NfaValue) × EndsAtEarlyMatches source m × IsSound m rows
 

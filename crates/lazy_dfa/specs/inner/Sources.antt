@@ -29,8 +29,8 @@ ListsEnds m list = (s k : ℕ) → s < size m → k < half m → (state m.states
 abbrev pub AreFound : List ℕ → ℕ → IndexSet → Type 0
 AreFound indexes count found = (j : ℕ) → j < count → j < length indexes → IsTrue (has_index found (slice_index indexes j))
 
--- the source with an end in place of each state that decides an index, and of that the classes of bytes, and the states from which some
--- bytes lead to an end
+-- the source with an end instead of each state that decides an index, and of that the classes of bytes, and the states from which
+-- some bytes lead to an end
 pub record IsMadeOf (source automaton : NfaValue) (classes : ByteClasses) (leading : StateSet) (indexes : List ℕ) : Type 0 where
   pub early : EndsAtEarlyMatches source automaton
   pub few : classes.count ≤ 256

@@ -1,5 +1,5 @@
--- What holds while arguments are parsed one after another: the same as in `Command`, but by the flags in force in place of
--- the arguments before. Only private functions cite these.
+-- What holds while arguments are parsed one after another: the same as in `Command`, but by the flags in force instead of the
+-- arguments before. Only private functions cite these.
 use Rattle.std.specs.Prelude.{◌≡◌, ℕ, List, [], ◌∷◌, ◌++◌, Bool, false, ◌||◌, ◌&&◌, not, Result, Ok, Err, MatchResult, codes, map, if◌then◌else◌}
 use Rattle.std.specs.Str.{bytes_eq}
 use Rattle.globset.specs.GlobMatches.{GlobValue}

@@ -123,7 +123,7 @@ impl Output {
     }
 }
 
-/// Returns a searcher of the set. Returns an error if memory runs out.
+/// Returns a searcher of the set.
 fn searcher_of(alloc: Global, set: &GlobSet) -> Result<Searcher, AllocError>
     ensures { IfOk result (λ searcher. searcher.set ≡ set.now) }
 {

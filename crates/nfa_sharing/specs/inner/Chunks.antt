@@ -12,7 +12,7 @@ with_next (union_state us) n = union_state us
 with_next (loop_state w us) n = loop_state w (n ∷ [])
 with_next (match_state k) n = match_state k
 
--- the states of the list from the place low on, below high, are st but for what they go on to: the numbers of nexts, and no others
+-- the states of the list from the place low on, below high, are st except what they go on to: the numbers of nexts, and no others
 pub record IsChunk (a : List State) (l : List ℕ) (low high : ℕ) (st : State) (nexts : List ℕ) : Type 0 where
   pub goes : (i : ℕ) → low ≤ i → i < high → (n : ℕ) × HasNumber n nexts × (state a (slice_index l i) ≡ with_next st n)
   pub comes : (n : ℕ) → HasNumber n nexts → (i : ℕ) × (low ≤ i) × (i < high) × (state a (slice_index l i) ≡ with_next st n)

@@ -117,8 +117,7 @@ impl ExtensionMatchers {
         }
     }
 
-    /// Returns caches with no rows for the automata, where runs need one. All memory that they need is taken here. Returns an
-    /// error if memory runs out.
+    /// Returns caches with no rows for the automata, where runs need one. All memory that they need is taken here.
     pub fn new_caches(&self, alloc: Global) -> Result<SlotCaches, AllocError>
         ensures { IfOk result (λ caches. AreSlotCaches self.now.nfas self.now.none caches) }
     {
@@ -146,8 +145,8 @@ impl ExtensionMatchers {
 impl ExtensionMatchers {
     /// Returns whether tokens of some extension match a text that begins with `text` and then `byte`.
     ///
-    /// It is at most `(text bytes + 2) * (states + 3 * starts)` visits of each automaton. The runs use the same sets of states, one
-    /// after another. The sets get room for each state of an automaton that is stepped. Returns an error if memory runs out.
+    /// It is at most `(text bytes + 2) * (states + 3 * starts)` visits of each automaton. The runs use the same sets of states,
+    /// one after another. The sets get room for each state of an automaton that is stepped.
     pub fn can_match_after(
         &self,
         text: &[u8],
@@ -222,7 +221,6 @@ impl ExtensionMatchersBuilder {
     }
 
     /// Adds the tokens of a glob that matches only paths with one extension. It takes time and memory linear in the tokens.
-    /// Returns an error if memory runs out.
     pub fn add_tokens(
         &mut self,
         alloc: Global,
@@ -293,7 +291,7 @@ impl ExtensionMatchersBuilder {
         states
     }
 
-    /// Returns what was added, whose rows share the room of so many states. Returns an error if memory runs out.
+    /// Returns what was added, whose rows share the room of so many states.
     pub fn finish(
         self,
         alloc: Global,

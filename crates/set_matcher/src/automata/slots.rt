@@ -50,7 +50,7 @@ impl ExtensionSlots {
 
     /// Adds the slot of an extension that has none.
     ///
-    /// Returns an error if memory runs out. Then there are no slots.
+    /// Then there are no slots.
     pub fn insert(
         &mut self,
         alloc: Global,
@@ -71,7 +71,7 @@ impl ExtensionSlots {
         Ok(())
     }
 
-    /// Returns the table of the slots. Returns an error if memory runs out.
+    /// Returns the table of the slots.
     pub fn build(self) -> Result<Table, AllocError>
         ensures { IfOk result (λ table. table ≡ self) }
     {
