@@ -38,7 +38,7 @@ impl Row {
     }
 }
 
-/// Returns whether the pair after one has another key, or there is none.
+/// Returns whether the next pair has another key, or there is none.
 fn ends_group(bytes: &[u8], pairs: &[Pair], at: usize) -> bool
     requires kept { All (IsKept bytes.now) pairs.now }
     requires at { at < length pairs.now }

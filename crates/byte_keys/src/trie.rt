@@ -17,7 +17,7 @@ use std::alloc::{AllocError, Global};
 use std::marker::Model;
 use std::snapshot::Snapshot;
 
-/// Texts with indexes, which are looked for at one side of a path.
+/// Texts with indexes, to look for at a side of a path.
 #[derive(Drop)]
 pub struct Trie {
     /// It is `None` if there are no texts. It is in a box, so that little is moved with a trie.
@@ -69,7 +69,7 @@ impl Trie {
     /// Puts the indexes of the texts that the path begins or ends with into a set, next to its contents: those that it has room
     /// for. It does not allocate.
     ///
-    /// It is at most one visit for each byte of the path, and one more.
+    /// It is at most `path bytes + 1` visits.
     // Most sets have no texts with this anchor: the test for that is a part of the caller.
     #[inline(always)]
     pub fn find(&self, path: &[u8], into: &mut IndexSet, visits: &mut Visits)
@@ -85,7 +85,7 @@ impl Trie {
 
     /// Returns whether the path begins or ends with some text. It stops at the first, and does not allocate.
     ///
-    /// It is at most one visit for each byte of the path, and one more.
+    /// It is at most `path bytes + 1` visits.
     #[inline(always)]
     pub fn is_match(&self, path: &[u8], visits: &mut Visits) -> bool
         ensures some { IsTrue result ↔ (found self.now path.now ≢ []) }
@@ -100,7 +100,7 @@ impl Trie {
 
     /// Returns how many indexes of texts the path begins or ends with, each as often as it was given. It does not allocate.
     ///
-    /// It is at most one visit for each byte of the path, and one more.
+    /// It is at most `path bytes + 1` visits.
     #[inline(always)]
     pub fn count_matches(&self, path: &[u8], visits: &mut Visits) -> usize
         ensures count { result ≡ length (found self.now path.now) }

@@ -1,4 +1,4 @@
-//! What a command writes.
+//! The output of a command.
 
 use crate::fault::Fault;
 use std::alloc::{AllocError, Global};

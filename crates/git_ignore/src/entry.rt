@@ -22,7 +22,7 @@ impl RuleEntry {
         is_folder || !self.is_folders_only
     }
 
-    /// Returns the decision about a path for which this is the last rule that applies.
+    /// Returns the decision about a path whose last applicable rule is this one.
     pub fn decision(self) -> Decision
         ensures { result ≡ decision_of (Some self) }
     {

@@ -23,6 +23,10 @@ use std::sync::Arc;
 /// To decide about many paths, make a [`crate::RulesSearcher`] of them.
 ///
 /// Contracts see the bytes of the file, and the set of the globs of its rules.
+///
+/// # Errors
+///
+/// Calls that return a [`Result`] fail only if memory runs out.
 #[derive(Drop)]
 pub struct Rules {
     /// Searchers share it.
@@ -40,7 +44,7 @@ impl Model for Rules {
 }
 
 impl Rules {
-    /// Reads an ignore file, given by its bytes. Each line has at most one rule. Lines that git cannot read have none, and lines
+    /// Reads an ignore file, given by its bytes. Each line has a rule or none. Lines that git cannot read have none, and lines
     /// that no glob can express, such as lines that are not UTF-8. That is no error: [`Rules::unread_lines`] returns their
     /// numbers.
     ///
@@ -59,7 +63,7 @@ impl Rules {
     /// Returns the decision of the file about a path below its folder: the last rule that applies decides.
     ///
     /// The path begins in the folder of the file. Everything below an ignored folder is ignored, too: see [`crate::IgnoreStack`].
-    /// The scratch has to fit the rules. It then fits what it fitted before.
+    /// The scratch has to fit the rules, and fits the same rules afterwards.
     pub fn decide(&self, path: &[u8], is_folder: bool, scratch: &mut IgnoreScratch) -> Decision
         requires { FitsRules scratch.old self.now }
         ensures decision { result ≡ decision self.now.file path.now is_folder }
@@ -82,7 +86,7 @@ impl Rules {
         line_by(self.last_entry(path, is_folder, scratch))
     }
 
-    /// Like [`Rules::decide`], with a scratch of its own. Returns an error only if memory runs out.
+    /// Like [`Rules::decide`], with a scratch of its own.
     pub fn decide_once(&self, path: &[u8], is_folder: bool) -> Result<Decision, Error>
         ensures decision { IfOk result (λ d. d ≡ decision self.now.file path.now is_folder) }
         ensures err { IsOkUnless result out_of_memory }
@@ -91,7 +95,7 @@ impl Rules {
         Ok(self.decide(path, is_folder, &mut scratch))
     }
 
-    /// Like [`Rules::deciding_line`], with a scratch of its own. Returns an error only if memory runs out.
+    /// Like [`Rules::deciding_line`], with a scratch of its own.
     pub fn deciding_line_once(&self, path: &[u8], is_folder: bool) -> Result<Option<usize>, Error>
         ensures line { IfOk result (λ n. n ≡ deciding_line self.now.file path.now is_folder) }
         ensures err { IsOkUnless result out_of_memory }
@@ -100,15 +104,14 @@ impl Rules {
         Ok(self.deciding_line(path, is_folder, &mut scratch))
     }
 
-    /// Decides about each folder above a path, as [`Rules::decide`] does, from the highest one down.
+    /// Decides about each folder above a path, as [`Rules::decide`] does, from the highest folder down.
     ///
-    /// The decision about a folder is put at the index of the `/` after it in the path, unless there is one already: an item that
-    /// is not [`Decision::Undecided`] stays as it is. So calls for several files, deeper folders first, find the decisions of all
-    /// the files. The path below the folder of the file begins at `start`. Folders that end before are left out, and folders for
-    /// which `decisions` is too short. All other items stay as they are.
+    /// The decision about a folder is put at the index of the `/` after it in the path, unless a decision is there already: an
+    /// item that is not [`Decision::Undecided`] stays as it is. So calls for several files, deeper folders first, find the
+    /// decisions of all the files. The path below the folder of the file begins at `start`. Folders that end before are left out,
+    /// and folders for which `decisions` is too short. All other items stay as they are.
     ///
-    /// Each folder takes a pass over its whole path, with a scratch of the call's own. Returns an error only if memory runs out;
-    /// nothing is put then.
+    /// Each folder takes a pass over its whole path, with a scratch of the call's own. After an error no decision is put.
     pub fn decide_folders(
         &self,
         path: &[u8],

@@ -20,7 +20,7 @@ const SAID: [(&[u8], bool, Decision, Option<usize>); 10] = [
     (b"k/m", true, Decision::Ignored, Some(5)),
 ];
 
-/// Returns the first row that a searcher does not say, if it is asked about each path twice.
+/// Returns the first row that a searcher gets wrong, if it decides about each path twice.
 fn wrong_row(searcher: &mut RulesSearcher) -> Option<usize> {
     for (row, (path, is_folder, decision, line)) in SAID.iter().enumerate() {
         for _ in 0..2 {

@@ -49,7 +49,7 @@ impl Folders {
     /// Returns whether some key begins with the folder and a `/`.
     ///
     /// It is one visit, and does not allocate. It is a binary search: among at most `2^n` folders of keys it makes at most `n +
-    /// 1` comparisons, each of which reads at most one byte more than the folder has.
+    /// 1` comparisons, each of which reads a byte more than the folder has, at most.
     pub fn has_below(&self, folder: &[u8], visits: &mut Visits) -> bool
         ensures some { IsTrue result ↔ SomeBelow self.now folder.now }
         ensures visits { visits.new ≡ visits.old + 1 }

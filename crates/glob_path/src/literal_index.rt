@@ -18,7 +18,7 @@ use byte_keys::{Anchor, Table, TableBuilder, Text, Trie};
 use std::alloc::{AllocError, Global};
 use std::marker::Model;
 
-/// Indexes under keys, where a path finds those of the keys that match it.
+/// Indexes under keys, where a path finds the keys that match it.
 #[derive(Drop)]
 pub struct LiteralIndex {
     paths: Table,
@@ -46,12 +46,12 @@ impl Model for LiteralIndex {
 }
 
 impl LiteralIndex {
-    /// Returns whether the last component of a path is asked for.
+    /// Returns whether the last component of a path is looked up.
     pub fn uses_last_component(&self) -> bool {
         !self.components.is_empty()
     }
 
-    /// Returns whether the extension of a path is asked for.
+    /// Returns whether the extension of a path is looked up.
     pub fn uses_extension(&self) -> bool {
         !self.extensions.is_empty()
     }
@@ -66,9 +66,9 @@ impl LiteralIndex {
         self.prefixes.is_empty() && self.ends.is_empty()
     }
 
-    /// Puts the indexes that the path finds into a set, next to its contents: those under it, under its last component and under
-    /// the extension of that, and those of the texts that it begins or ends with. An index that the set has no room for is left
-    /// out. A part of the path is only searched for if there are keys for it. It does not allocate.
+    /// Adds the indexes that the path finds to a set: under the path, under its last component and under its extension, and under
+    /// the texts that it begins or ends with. An index that the set has no room for is left out. A part of the path is only
+    /// searched for if there are keys for it. It does not allocate.
     pub fn find(&self, path: &PathParts<'_>, found: &mut IndexSet, visits: &mut Visits)
         ensures room { index_capacity found.new ≡ index_capacity found.old }
         ensures found { HasAlso found.old found.new (keys_found self.now path.now) }
@@ -103,14 +103,14 @@ impl LiteralIndex {
         self.ends.is_match(path.path(), visits)
     }
 
-    /// Returns whether some key may be found for a path below a folder, which is a path without a `/` at its end. A walk over a tree
-    /// of folders need not enter one for which this is false: no path in it finds a key.
+    /// Returns whether some key may be found for a path below a folder, which is a path without a `/` at its end. A walk over a
+    /// tree of folders need not enter one if this is false: no path in it finds a key.
     ///
-    /// It may be true and still no path below the folder find a key, since it takes each path to have any last component, any
-    /// extension and any end. So it is true for all folders if there is a key for one of these.
+    /// It may be true and still no path below the folder find a key, since it lets each path have any last component, any
+    /// extension and any end. So it is true for all folders if there is a key for a last component, an extension or an end.
     ///
-    /// It is at most one lookup, which is a binary search among the folders of the paths and beginnings, and one walk. It does
-    /// not allocate.
+    /// It is at most a lookup, which is a binary search among the folders of the paths and beginnings, and a walk. It does not
+    /// allocate.
     pub fn can_match_below(&self, folder: &[u8], visits: &mut Visits) -> bool
         ensures some { IsTrue result ↔ MatchesBelow self.now folder.now }
         ensures visits { visits.new ≤ visits.old + (length folder.now + 2) }
@@ -240,7 +240,7 @@ impl LiteralIndexBuilder {
         self.put(key, index)
     }
 
-    /// Returns what was added.
+    /// Returns the index of the keys that were added.
     ///
     /// The time is linear in the bytes of all keys, except that the beginnings, the ends and the folders of keys are sorted.
     pub fn finish(self, alloc: Global) -> Result<LiteralIndex, AllocError>

@@ -11,7 +11,7 @@ use std::alloc::{AllocError, Global};
 use std::marker::Model;
 use table::{Membership, table_of};
 
-/// Returns the error of the first bad range of a class's body, if it has one.
+/// Returns the error of the first bad range of a class's body, if there is any.
 #[tactic(auto, unfolding(crate::specs::Ranges::bad_range))]
 pub fn bad_range(body: &[char]) -> Option<ParseErrorKind>
     ensures { result ≡ bad_range body.now }
@@ -84,7 +84,7 @@ pub struct Class {
     parts: Box<Parts>,
 }
 
-/// What a class has. It is large, and on the heap, since most tokens are no classes.
+/// The parts of a class. They are large, and on the heap, since most tokens are no classes.
 #[derive(Drop)]
 struct Parts {
     negated: bool,
@@ -124,7 +124,7 @@ impl Class {
         Ok(Class { parts })
     }
 
-    /// Returns whether the class contains a byte under these options. This reads one entry of its table.
+    /// Returns whether the class contains a byte under these options. This reads an entry of its table.
     pub fn has(&self, options: Options, byte: u8) -> bool
         ensures { result ≡ class_has options self.now.negated self.now.ranges byte }
     {

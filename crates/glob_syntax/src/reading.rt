@@ -25,9 +25,9 @@ pub fn characters(alloc: Global, text: &str) -> Result<Vec<char>, AllocError>
 
 /// Returns the tokens of a glob's text.
 ///
-/// This takes time and memory linear in the length of the text. One pass splits the text into lexemes, and another makes
-/// tokens of the lexemes. The first pass looks ahead for the `]` of each class; once there is none, it never looks again. Each
-/// class has a table of 256 entries, filled in a step for each byte that a range contains.
+/// This takes time and memory linear in the length of the text. One pass splits the text into lexemes, and another makes tokens
+/// of the lexemes. The first pass looks ahead for the `]` of each class; once there is none, it stops looking. Each class has a
+/// table of 256 entries, filled in a step for each byte that a range contains.
 ///
 /// # Errors
 ///
@@ -40,7 +40,7 @@ pub fn characters(alloc: Global, text: &str) -> Result<Vec<char>, AllocError>
 /// - `DanglingEscape` for a `\` at the end of the text, under `backslash_escape`;
 /// - `UnclosedAlternates` for a group that is still open at the end of the text.
 ///
-/// Returns `ReadError::Memory` if memory runs out.
+/// `ReadError::Memory` if memory runs out.
 #[tactic(auto, unfolding(crate::specs::Reading::reading))]
 pub fn read_tokens(alloc: Global, options: Options, text: &str) -> Result<Vec<Token>, ReadError>
     ensures value { AgreesWith (λ v. tokens_of v.items) result (reading options (chars text.now)) }

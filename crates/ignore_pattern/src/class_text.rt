@@ -122,7 +122,7 @@ fn push_spelled(out: &mut Vec<char>, x: char, y: char) -> Result<(), AllocError>
     Ok(())
 }
 
-/// Returns the character from U+0080 to U+00BF whose last byte is that of `x`, or U+0080 if `x` is ASCII.
+/// Returns the character from U+0080 to U+00BF with the same last byte as `x`, or U+0080 if `x` is ASCII.
 fn first_beyond(x: char) -> char
     ensures { result ≡ first_beyond x }
 {
@@ -175,7 +175,7 @@ fn push_beyond(out: &mut Vec<char>, items: &[Item]) -> Result<(), AllocError>
     Ok(())
 }
 
-/// Returns what is in the class before `!`, `^` and `-`.
+/// Returns the class's bytes before `!`, `^` and `-`.
 fn body_start(alloc: Global, negated: bool, items: &[Item]) -> Result<Vec<char>, AllocError>
     ensures { IfOk result (λ v. v.items ≡ body_start negated items.now) }
 {

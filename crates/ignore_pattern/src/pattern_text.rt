@@ -40,7 +40,7 @@ fn whole_text(alloc: Global, cs: &[char]) -> Result<Option<String>, AllocError>
     }
 }
 
-/// Returns how many characters belong to the `**/` at the start, if there is one.
+/// Returns the number of characters of the `**/` at the start, if there is any.
 fn folders_at(cs: &[char]) -> Option<usize>
     ensures value { result ≡ folders_at cs.now }
     ensures within { IfSome result (λ n. n ≤ length cs.now) }
@@ -54,7 +54,7 @@ fn folders_at(cs: &[char]) -> Option<usize>
     }
 }
 
-/// Returns that of a run of stars, `more` of them after the first one, before `rest`.
+/// Returns this number for a run of stars, `more` of them after the first, before `rest`.
 fn folders_after(more: usize, rest: &[char]) -> Option<usize>
     requires { more + length rest.now < 2 ^ 64 - 1 }
     ensures value { result ≡ folders_after more rest.now }

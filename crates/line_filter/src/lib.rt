@@ -1,8 +1,8 @@
-//! The lines of an input that a set of globs matches, and what a command line asks for.
+//! The lines of an input that a set of globs matches, and the parsing of a command line.
 //!
-//! - [`command`] parses the arguments of a command line: globs and flags, or one JSON array of globs.
-//! - [`sift`] reads lines, each of which is a path, and writes those that a set matches.
-//! - [`write_matching_lines`] does one after the other, as the program `globsift` does.
+//! - [`command`] parses the arguments of a command line: globs and flags, or a JSON array of globs.
+//! - [`sift`] reads lines, which are paths, and writes the lines that a set matches.
+//! - [`write_matching_lines`] does both, as the program `globsift` does.
 #![tactic(auto)]
 
 mod arguments;

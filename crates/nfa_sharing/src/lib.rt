@@ -1,8 +1,8 @@
-//! Automata in which texts that begin alike share states.
+//! Automata where texts that begin alike share states.
 //!
 //! An automaton for many globs begins in a state of each, and most texts lead to states of many of them. [`shared`] makes an
-//! automaton that leads to the same ends and begins in one state. There one state stands for all that a text may lead to by steps
-//! of one kind with the same bytes, so a run goes through smaller sets of states.
+//! automaton that leads to the same ends and begins in a single state. There a single state stands for all states to which a text
+//! may lead by steps of the same kind with the same bytes, so a run goes through smaller sets of states.
 #![tactic(auto)]
 
 ghost use Rattle.std.specs.Prelude.{IfOk, IfSome};
@@ -20,7 +20,7 @@ use crate::sharing::start_state;
 use byte_nfa::{Builder, Nfa};
 use std::alloc::{AllocError, Global};
 
-/// Returns an automaton that leads where `automaton` does and begins in one state, and in which texts that begin alike share
+/// Returns an automaton that leads where `automaton` does and begins in a single state, and where texts that begin alike share
 /// states.
 ///
 /// Returns `None` if there are no starts, or if that takes more states than there are, or more work than is linear in the states.

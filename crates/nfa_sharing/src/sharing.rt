@@ -16,7 +16,7 @@ use crate::sets::SetNumbers;
 use byte_nfa::{Builder, Nfa, StateRef};
 use std::alloc::{AllocError, Global};
 
-/// The lists that a state was made for, and those that wait for one.
+/// The lists that a state was made for, and the lists that wait for a state.
 #[derive(Drop)]
 struct Sharing {
     known: KnownLists,
@@ -62,8 +62,8 @@ pub fn start_state(
 }
 
 impl Sharing {
-    /// Makes a state for a list, if states were made for the lists that it leads to. Otherwise these wait to be taken first, and
-    /// then this one again. Returns whether there was work left for that, and there are no more states than before.
+    /// Makes a state for a list, if states were made for the lists that it leads to. Otherwise these wait first, and then this
+    /// list again. Returns whether there was work left for that, and the number of states is within bounds.
     fn take(
         &mut self,
         alloc: Global,
@@ -104,8 +104,8 @@ impl Sharing {
         Ok(builder.state_count() <= automaton.state_count())
     }
 
-    /// Returns the states of a list with what a union goes on to in its place, in an order in which those that are alike stand
-    /// together. `None` if that is too much work.
+    /// Returns the states of a list with a union's successors in its place, ordered so that states that are alike are adjacent.
+    /// `None` if that is too much work.
     fn in_order(
         &mut self,
         alloc: Global,
@@ -130,7 +130,7 @@ impl Sharing {
     }
 }
 
-/// Returns the lists of what the chunks of a list go on to that no state was made for. `None` if the list has a union.
+/// Returns the lists to which the chunks of a list lead and for which no state was made. `None` if the list has a union.
 fn missing_lists(
     alloc: Global,
     automaton: &Nfa,

@@ -1,4 +1,4 @@
-//! By what a matcher decides.
+//! How a matcher decides.
 
 ghost use Rattle.std.specs.Prelude.{◌≡◌, ◌+◌, ◌≤◌, ◌↔◌, IfOk, IfSome, IsOk, IsTrue};
 ghost use Rattle.lazy_dfa.specs.Sets.{sets_capacity};
@@ -17,7 +17,7 @@ use lazy_dfa::StateSets;
 use std::alloc::{AllocError, Global};
 use std::sync::Arc;
 
-/// By what a matcher decides whether its glob matches a path.
+/// How a matcher decides whether its glob matches a path.
 #[derive(Drop)]
 pub enum Strategy {
     /// A key, which is compared with the path or a part of it.
@@ -27,8 +27,8 @@ pub enum Strategy {
 }
 
 impl Strategy {
-    /// Returns the key of a glob if one decides it, and otherwise an automaton, of which rows of at most `dfa_size_limit` bytes
-    /// are kept between calls.
+    /// Returns the key of a glob if a key decides it, and otherwise an automaton, whose caches take at most `dfa_size_limit`
+    /// bytes.
     pub fn of(glob: &Glob, dfa_size_limit: usize) -> Result<Strategy, AllocError>
         ensures { IfOk result (IsStrategyOfMatcher glob.now) }
     {
