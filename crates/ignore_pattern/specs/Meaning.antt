@@ -19,7 +19,7 @@ pub record HasMeaningOf (matches : List ℕ → Bool) (g : GlobValue) : Type 0 w
 abbrev pub MatchesNothing : (List ℕ → Bool) → Type 0
 MatchesNothing matches = (path : List ℕ) → matches path ≡ false
 
--- the text of a pattern is that of a glob that has its meaning; a pattern without a text matches nothing
+-- the text of a pattern is the text of a glob with the same meaning; a pattern without a text matches nothing
 abbrev pub HasMeaning : Pattern → Option (List ℕ) → Type 0
 HasMeaning p None = MatchesNothing (pattern_matches p)
 HasMeaning p (Some text) = HasMeaningOf (pattern_matches p) (translated text)
