@@ -23,12 +23,12 @@ use std::sync::Arc;
 /// The most bytes that rows are kept in between calls, unless another limit is set: 16 MiB.
 pub const DEFAULT_DFA_SIZE_LIMIT: usize = 1 << 24;
 
-/// An automaton as it is run: by rows that are known, and where one is not, by rows that are made; and where there is no room for
-/// rows, stepped from one set of states to the next. Contracts see the automaton that it was made from.
+/// An automaton in the form in which it is run: by rows that are known, otherwise by rows that are made, and where there is no
+/// room for rows, stepped from a set of states to the next. Contracts see the automaton from which it was made.
 #[derive(Drop)]
 pub struct Compiled {
     source: Source,
-    /// It leads to the same ends. If there is more than one start, texts that begin alike share states in it.
+    /// It leads to the same ends. If there are several starts, texts that begin alike share states in it.
     dfa: Arc<LazyDfa>,
     rows: Option<RowSource>,
 }
@@ -81,7 +81,7 @@ impl Compiled {
         }
     }
 
-    /// Makes a cache and keeps it for later calls, unless one was made before, or there is no room or no memory for it.
+    /// Makes a cache and keeps it for later calls, unless a cache was made before, or there is no room or no memory for it.
     pub fn keep_cache(&self) {
         if let Some(rows) = &self.rows {
             rows.keep_one();
@@ -127,9 +127,9 @@ impl Compiled {
 impl Compiled {
     /// Puts the indexes of the tokens that match a text into a set, next to its contents.
     ///
-    /// It is at most `(text bytes + 1) * (states + 3 * starts)` visits. What the sets of states held has no effect; their room
-    /// grows to the states, if these are stepped. It allocates nothing if they have room for all states; some of the indexes may
-    /// be in the set then.
+    /// It is at most `(text bytes + 1) * (states + 3 * starts)` visits. The old contents of the sets of states have no effect. If
+    /// the automaton is stepped, their room grows to its states. It allocates nothing if they have room for all states. After an
+    /// error some of the indexes may be in the set.
     pub fn find(
         &self,
         text: &[u8],
@@ -158,8 +158,8 @@ impl Compiled {
 
     /// Returns whether tokens match a text.
     ///
-    /// It is at most `(text bytes + 1) * (states + 3 * starts)` visits. What the sets of states held has no effect; their room
-    /// grows to the states, if these are stepped. It allocates nothing if they have room for all states.
+    /// It is at most `(text bytes + 1) * (states + 3 * starts)` visits. The old contents of the sets of states have no effect. If
+    /// the automaton is stepped, their room grows to its states. It allocates nothing if they have room for all states.
     pub fn is_match(
         &self,
         text: &[u8],
@@ -185,8 +185,8 @@ impl Compiled {
 
     /// Returns whether some tokens match a text that begins with `text` and then `byte`.
     ///
-    /// It is at most `(text bytes + 2) * (states + 3 * starts)` visits. What the sets of states held has no effect; their room
-    /// grows to the states, if these are stepped. It allocates nothing if they have room for all states.
+    /// It is at most `(text bytes + 2) * (states + 3 * starts)` visits. The old contents of the sets of states have no effect. If
+    /// the automaton is stepped, their room grows to its states. It allocates nothing if they have room for all states.
     pub fn can_match_after(
         &self,
         text: &[u8],
@@ -220,7 +220,7 @@ impl Compiled {
 }
 
 impl Compiled {
-    /// Like [`Compiled::find`], by the rows of a cache if there is one.
+    /// Like [`Compiled::find`], by the rows of a cache if there is any.
     ///
     /// It takes memory, and so returns an error if it runs out, only if the sets of states have no room for all states.
     pub fn find_with(
@@ -250,7 +250,7 @@ impl Compiled {
         Ok(())
     }
 
-    /// Like [`Compiled::is_match`], by the rows of a cache if there is one.
+    /// Like [`Compiled::is_match`], by the rows of a cache if there is any.
     ///
     /// It takes memory, and so returns an error if it runs out, only if the sets of states have no room for all states.
     pub fn is_match_with(
@@ -277,7 +277,7 @@ impl Compiled {
         Ok(rows.is_match(text, visits))
     }
 
-    /// Like [`Compiled::can_match_after`], by the rows of a cache if there is one.
+    /// Like [`Compiled::can_match_after`], by the rows of a cache if there is any.
     ///
     /// It takes memory, and so returns an error if it runs out, only if the sets of states have no room for all states.
     pub fn can_match_after_with(

@@ -91,8 +91,8 @@ impl RowSource {
         self.kept.bytes()
     }
 
-    /// Makes a cache of the most bytes and keeps it for later calls, unless one was made before, or there is no room or no memory for
-    /// it.
+    /// Makes a cache of the most bytes and keeps it for later calls, unless a cache was made before, or there is no room or no
+    /// memory for it.
     pub fn keep_one(&self) {
         if self.kept.bytes() > 0 {
             return;
@@ -145,9 +145,9 @@ impl RowSource {
 }
 
 impl RowSource {
-    /// Puts the index of each end that a text leads to into a set, next to its contents, by the rows of the cache that was
-    /// published last, or, where an entry is not known there, by those of a cache that is kept. Returns whether there was one,
-    /// or, if memory may be taken, one could be made. If not, some of the indexes may be in the set.
+    /// Puts the index of each end that a text leads to into a set, next to its contents. It reads the rows of the cache that was
+    /// published last, and where an entry is not known there, the rows of a kept cache. Returns whether there was a cache, or, if
+    /// the call may allocate, a new cache. If not, some of the indexes may be in the set.
     pub fn find(
         &self,
         text: &[u8],
@@ -198,8 +198,8 @@ impl RowSource {
         Some(is_match)
     }
 
-    /// Returns whether some text that begins with `text` and then `byte` leads to some end, as [`RowSource::find`] finds it, or
-    /// `None` if there was no cache and, if memory may be taken, none could be made.
+    /// Returns whether some text that begins with `text` and then `byte` leads to some end, as [`RowSource::find`] finds it.
+    /// Returns `None` if there was no cache and, if the call may allocate, none could be made.
     pub fn can_match_after(
         &self,
         text: &[u8],
@@ -230,7 +230,7 @@ impl RowSource {
 /// changed what a path took.
 const MOST_BYTES: usize = 1 << 23;
 
-/// With fewer bytes for a cache there is none: so many automata share the room that few globs are run for a text.
+/// With fewer bytes for a cache there is none: then so many automata share the room that few globs are run for a text.
 pub const FEWEST_BYTES: usize = 1 << 12;
 
 /// Returns how many of some bytes an automaton of so many states has, which automata of `all_states` share.

@@ -21,7 +21,7 @@ pub struct Frame {
     pub blank: bool,
     /// Where the branches lead to.
     pub exit: usize,
-    /// Where the later branches that are kept begin, the last one first.
+    /// Where the later branches that are kept begin, the last first.
     pub starts: Vec<usize>,
     /// Whether the later branches are all blank.
     pub rest_blank: bool,

@@ -1,8 +1,8 @@
-//! Automata of tokens: their states, which lead to an end by what the tokens match.
+//! Automata of tokens: their states, which lead to an end exactly if the tokens match.
 //!
-//! An automaton has the states of its tokens, one glob after another, and the end of each names its index. `new_builder`
-//! begins one, and `add_tokens` adds the tokens of a glob, or a part of them that is to be matched as a glob of its own.
-//! Nothing here knows the text of a glob.
+//! An automaton has the states of its tokens, glob by glob, and the end of each names its index. `new_builder` begins an
+//! automaton, and `add_tokens` adds the tokens of a glob, or a part of them that is to be matched as a glob of its own. Nothing
+//! here knows the text of a glob.
 #![tactic(auto)]
 
 mod characters;

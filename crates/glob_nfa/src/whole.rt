@@ -54,7 +54,7 @@ fn add_whole(
     }
 }
 
-/// Adds tokens to an automaton that is being built, as those of a whole glob. They get an index, which a run finds where
+/// Adds tokens to an automaton that is being built, as the tokens of a whole glob. They get an index, which a run finds where
 /// they match the path under the options.
 ///
 /// It takes time and memory linear in the tokens. Then the automaton is for the same tokens as before, although it may have more

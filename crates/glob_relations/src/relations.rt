@@ -39,9 +39,9 @@ pub enum Intersection {
 
 /// Returns whether each path of a domain that a glob matches is matched by some of other globs, or else a path that is not.
 ///
-/// Globs match here as their matchers do, also those that a set excludes. It returns [`Coverage::Unknown`] if paths lead to more than
-/// `limit` rows, of which each is a set of states of the globs, and what the bytes of a path so far say of the domain. Memory is at
-/// most linear in the rows, times the states of the globs. Returns an error if memory runs out.
+/// Globs match here as their matchers do, also those that a set excludes. It returns [`Coverage::Unknown`] if paths lead to more
+/// than `limit` rows. A row is a set of states of the globs, and a place in the domain. Memory is at most linear in the rows,
+/// times the states of the globs. Fails only if memory runs out.
 pub fn covering(
     alloc: Global,
     glob: &Glob,
@@ -69,7 +69,7 @@ fn coverage_of(answer: Answer) -> Coverage
 
 /// Returns whether two globs match no path of a domain in common, or else a path that both match.
 ///
-/// It has the limit and the cost of [`covering`]. Returns an error if memory runs out.
+/// It has the limit and the cost of [`covering`]. Fails only if memory runs out.
 pub fn overlap(
     alloc: Global,
     a: &Glob,

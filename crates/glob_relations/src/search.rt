@@ -16,7 +16,7 @@ use bit_sets::{ByteSet, IndexSet, StateSet};
 use byte_nfa::Nfa;
 use std::alloc::{AllocError, Global};
 
-/// What a search returns.
+/// The answer of a search.
 #[derive(Drop)]
 pub enum Answer {
     /// A path that is wanted.

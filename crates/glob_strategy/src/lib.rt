@@ -1,4 +1,4 @@
-//! By what a set of globs decides each of its globs.
+//! How a set of globs decides each of its globs.
 #![tactic(auto)]
 
 mod excluded;

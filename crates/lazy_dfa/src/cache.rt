@@ -1,4 +1,4 @@
-//! The memory of one thread, and what it answers.
+//! The memory of a thread, and its answers.
 
 ghost use Rattle.std.specs.Prelude.{◌≡◌, ℕ, ◌+◌, ◌*◌, ◌≤◌, ◌⊎◌, ◌↔◌, ◌++◌, ◌∷◌, [], length, IsTrue, IfOk, IfSome, None};
 ghost use Rattle.bit_sets.specs.Indexes.{has_index, index_capacity};
@@ -14,10 +14,10 @@ use std::alloc::{AllocError, Global};
 use std::marker::Model;
 use std::snapshot::Snapshot;
 
-/// The rows that the texts of one thread needed so far, in a memory of fixed size.
+/// The rows that the texts of a thread needed so far, in a memory of fixed size.
 ///
-/// A cache is made for one automaton. Contracts see it as the automaton that this was made from: what earlier calls left has no
-/// effect on an answer.
+/// A cache is made for a [`LazyDfa`]. Contracts see it as the automaton from which that was made: earlier calls have no effect on
+/// an answer.
 #[derive(Drop)]
 pub struct Cache {
     // In a box, since a cache is moved from call to call while a searcher is made.
@@ -36,8 +36,8 @@ impl Model for Cache {
 impl Cache {
     /// Returns a cache with no rows.
     ///
-    /// It takes so many bytes, and more only where few states would fit: there is always room for a row. All memory is taken
-    /// here, and none by later calls. Returns an error if memory runs out, or if [`LazyDfa::may_have_rows`] returns `false`.
+    /// It takes `bytes` bytes, and more only where few states would fit: there is always room for a row. Later calls allocate
+    /// nothing. It also fails if [`LazyDfa::may_have_rows`] returns `false`.
     pub fn new(alloc: Global, dfa: &LazyDfa, bytes: usize) -> Result<Cache, AllocError>
         ensures { IfOk result (λ cache. cache ≡ dfa.now) }
     {
@@ -51,12 +51,12 @@ impl Cache {
         })
     }
 
-    /// Returns whether rows were forgotten since it was made, because there was no room for one more.
+    /// Returns whether rows were forgotten since it was made, because there was no room for another.
     pub fn has_forgotten(&self) -> bool {
         self.rows.has_forgotten()
     }
 
-    /// Returns how many bytes its rows may take. Beside these it takes a few bits for each state and for each index.
+    /// Returns the bytes that its rows may take. It also has a few bits for each state and for each index.
     pub fn bytes(&self) -> usize {
         self.rows.bytes()
     }
@@ -72,9 +72,9 @@ impl Cache {
 
     /// Puts the index of each end that a text leads to into a set, next to its contents.
     ///
-    /// An entry that is there is one visit. Where there is none yet, each state of the automaton is read at most once, which is
-    /// one visit, and a row is looked up, which is one more. So it is at most `(text bytes + 1) * (states + 1)` visits. It does
-    /// not allocate: if there is no room for a row, all rows are forgotten, which is no visit.
+    /// A known entry is a visit. For an unknown entry each state of the automaton is read at most once, which is a visit, and a
+    /// row is looked up, which is another. So it is at most `(text bytes + 1) * (states + 1)` visits. It does not allocate: if
+    /// there is no room for a row, all rows are forgotten, which is no visit.
     pub fn find(&mut self, dfa: &LazyDfa, text: &[u8], found: &mut IndexSet, visits: &mut Visits)
         requires same { dfa.now ≡ self.old }
         requires room { self.old.index_count ≤ index_capacity found.old }
@@ -90,8 +90,8 @@ impl Cache {
             .find(&dfa.automaton, &dfa.indexes, text, found, visits);
     }
 
-    /// Like [`Cache::find`] by entries that are there. Returns whether all that it needs are; if not, some of the indexes are put
-    /// into the set. It is at most one visit for each byte and one more.
+    /// Like [`Cache::find`] by known entries. Returns whether all needed entries are known; if not, some of the indexes are put
+    /// into the set. It is at most `text bytes + 1` visits.
     pub fn find_known(
         &self,
         dfa: &LazyDfa,
@@ -115,7 +115,7 @@ impl Cache {
             .find_known(&dfa.automaton, &dfa.indexes, text, found, visits)
     }
 
-    /// Returns whether a text leads to some end. It stops at the first that is found whatever follows.
+    /// Returns whether a text leads to some end. It stops as soon as the rest cannot change that.
     ///
     /// It is as many visits as [`Cache::find`] makes, and does not allocate.
     pub fn is_match(&mut self, dfa: &LazyDfa, text: &[u8], visits: &mut Visits) -> bool
@@ -128,8 +128,8 @@ impl Cache {
         self.rows.is_match(&dfa.automaton, text, visits)
     }
 
-    /// Like [`Cache::is_match`] by entries that are there. Returns `None` if one that it needs is not. It is at most one visit
-    /// for each byte and one more.
+    /// Like [`Cache::is_match`] by known entries. Returns `None` if it needs an unknown entry. It is at most `text bytes + 1`
+    /// visits.
     pub fn is_match_known(&self, dfa: &LazyDfa, text: &[u8], visits: &mut Visits) -> Option<bool>
         requires { dfa.now ≡ self.now }
         ensures some { IfSome result
@@ -142,7 +142,7 @@ impl Cache {
 
     /// Returns whether some text that begins with `text` and then `byte` leads to some end.
     ///
-    /// It is as many visits for each byte as [`Cache::find`] makes, and at most one more for each state. It does not allocate.
+    /// It has the visits of [`Cache::find`] for each byte, and at most another for each state. It does not allocate.
     pub fn can_match_after(
         &mut self,
         dfa: &LazyDfa,
@@ -160,8 +160,8 @@ impl Cache {
             .can_match_after(&dfa.automaton, &dfa.live, text, byte, visits)
     }
 
-    /// Like [`Cache::can_match_after`] by entries that are there. Returns `None` if one that it needs is not. It is at most one
-    /// visit for each byte and one more, and one for each state.
+    /// Like [`Cache::can_match_after`] by known entries. Returns `None` if it needs an unknown entry. It is at most `text bytes +
+    /// 1 + states` visits.
     pub fn can_match_after_known(
         &self,
         dfa: &LazyDfa,

@@ -21,8 +21,8 @@ pub fn states_at<'a>(starts: &[u32], lists: &'a [u32], row: usize) -> &'a [u32]
     &lists[start + 1..start + 1 + count]
 }
 
-/// Makes `list` that of the states below a bound that a set has. It allocates nothing if there is room for so many, and is at
-/// most as many visits.
+/// Makes `list` the list of the states below a bound that a set has. It allocates nothing if there is room for `limit` states,
+/// and is at most `limit` visits.
 pub fn list_of(set: &StateSet, limit: usize, list: &mut Vec<u32>, visits: &mut Visits)
     requires fits { limit ≤ 4294967296 }
     requires within { limit ≤ state_capacity set.now }
@@ -46,7 +46,7 @@ pub fn list_of(set: &StateSet, limit: usize, list: &mut Vec<u32>, visits: &mut V
     }
 }
 
-/// Makes `list` that of the indexes below a bound that a set has. It allocates nothing if there is room for so many.
+/// Makes `list` the list of the indexes below a bound that a set has. It allocates nothing if there is room for `limit` indexes.
 pub fn list_indexes(set: &IndexSet, limit: usize, list: &mut Vec<u32>)
     requires fits { limit ≤ 4294967296 }
     requires room { limit ≤ vec_capacity list.old }
@@ -93,7 +93,7 @@ pub fn copy_within(numbers: &mut Vec<u32>, others: &[u32])
     extend_within(numbers, others);
 }
 
-/// Appends so many zeros to a vector that has room for them. It does not allocate.
+/// Appends `count` zeros to a vector that has room for them. It does not allocate.
 pub fn zeros_within(numbers: &mut Vec<u32>, count: usize)
     requires { length numbers.old.items + count ≤ vec_capacity numbers.old }
     ensures items { numbers.new.items ≡ numbers.old.items ++ replicate count 0 }

@@ -215,7 +215,7 @@ impl Rows {
         }
     }
 
-    /// Like [`Rows::is_match`] by entries that are known. Returns `None` if one that it needs is not.
+    /// Like [`Rows::is_match`] by known entries. Returns `None` if it needs an unknown entry.
     pub fn is_match_known(&self, automaton: &Nfa, text: &[u8], visits: &mut Visits) -> Option<bool>
         requires { IsSound automaton.now self.now }
         ensures some { IfSome result (λ yes. IsTrue yes
@@ -273,7 +273,7 @@ impl Rows {
         }
     }
 
-    /// Like [`Rows::can_match_after`] by entries that are known. Returns `None` if one that it needs is not.
+    /// Like [`Rows::can_match_after`] by known entries. Returns `None` if it needs an unknown entry.
     pub fn can_match_after_known(
         &self,
         automaton: &Nfa,

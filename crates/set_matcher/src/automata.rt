@@ -89,7 +89,7 @@ impl Automata {
         self.extensions.keep_caches();
     }
 
-    /// Returns caches with no rows for the automata, where runs need one. All memory that they need is taken here.
+    /// Returns caches with no rows for the automata that need any. Runs with them allocate nothing for rows.
     pub fn new_caches(&self, alloc: Global) -> Result<Caches, AllocError>
         ensures { IfOk result (λ caches. AreCachesOf self.now caches) }
     {
@@ -219,12 +219,12 @@ impl Automata {
         self.extensions.slot_of(path.extension(), visits)
     }
 
-    /// Returns whether the last component of a path is asked for.
+    /// Returns whether the last component of a path is looked up.
     pub fn uses_last_component(&self) -> bool {
         self.by_component.state_count() != 0
     }
 
-    /// Returns whether the extension of a path is asked for.
+    /// Returns whether the extension of a path is looked up.
     pub fn uses_extension(&self) -> bool {
         !self.extensions.is_empty()
     }
@@ -240,7 +240,8 @@ impl Automata {
     }
 }
 
-/// Makes [`Automata`] if some glob needs one. Until then it has no builders, so that little is moved for a set that needs none.
+/// Makes [`Automata`] if some glob needs an automaton. Until then it has no builders, so that little is moved for a set without
+/// automata.
 #[derive(Drop)]
 pub struct AutomataBuilder {
     index_count: usize,
@@ -382,8 +383,8 @@ impl AutomataBuilder {
         added
     }
 
-    /// Returns what was added, or `None` if nothing was. The rows that are kept between calls take at most `dfa_size_limit`
-    /// bytes.
+    /// Returns the automata of the globs that were added, or `None` if there are none. The rows that are kept between calls take
+    /// at most `dfa_size_limit` bytes.
     pub fn finish(
         self,
         alloc: Global,

@@ -1,4 +1,4 @@
-//! The rows that automata keep from one path to the next.
+//! The rows that automata keep from path to path.
 
 ghost use Rattle.std.specs.Prelude.{◌≡◌, ◌+◌, ◌*◌, ◌≤◌, ◌++◌, ◌∷◌, ◌↔◌, [], ℕ, List, length, None, Some, IsTrue, IsOk, OnOk, IfOk};
 ghost use Rattle.bit_sets.specs.Indexes.{index_capacity};
@@ -19,10 +19,10 @@ use lazy_dfa::StateSets;
 use std::alloc::AllocError;
 use std::marker::Model;
 
-/// The rows that the automata of a matcher made for the paths of one thread. Where an automaton has none, it runs without.
+/// The rows that the automata of a matcher made for the paths of a thread. An automaton without rows runs without.
 ///
-/// What they hold has no effect on an answer. They are for calls with the matcher that made them, or, if there are none, for
-/// calls with any.
+/// Their contents have no effect on an answer. They are for calls with the matcher that made them; empty caches are for calls
+/// with any matcher.
 pub struct Caches {
     pub(crate) by_path: Option<RowCache>,
     pub(crate) by_component: Option<RowCache>,

@@ -25,8 +25,8 @@ use std::alloc::{AllocError, Global};
 use std::marker::Model;
 use std::sync::Arc;
 
-/// What a set needs to match: its globs, grouped by what decides each of them. The index of a glob is its position. Of the globs
-/// themselves nothing is kept but what contracts see, which allocates nothing.
+/// The stored form of a set: its globs, grouped by how each is decided. The index of a glob is its position. The texts and tokens
+/// of the globs are not stored; contracts see them.
 ///
 /// Contracts see the set, and the automata, so that it can be said which of them a cache is of.
 #[derive(Drop)]
@@ -53,7 +53,7 @@ impl Model for SetMatcher {
 }
 
 impl SetMatcher {
-    /// Returns the number of globs, each of which was read, with those that are excluded.
+    /// Returns the number of globs, excluded globs included. Each of them was read.
     pub fn len(&self) -> usize
         ensures count { result ≡ length (set_globs self.now.set) }
         ensures read { All IsRead (set_globs self.now.set) }
@@ -79,7 +79,7 @@ impl SetMatcher {
         }
     }
 
-    /// Keeps a cache in each automaton that has none and may use one, as far as there is memory for it.
+    /// Keeps a cache in each automaton that has none and may use a cache, as far as there is memory for it.
     pub fn keep_caches(&self) {
         if let Some(automata) = &self.automata {
             automata.keep_caches();
@@ -128,7 +128,7 @@ impl Model for SetMatcherBuilder {
 }
 
 impl SetMatcherBuilder {
-    /// Returns a builder that no globs were added to. So many of them have to be. It allocates nothing.
+    /// Returns a builder without globs, for `count` globs. It allocates nothing.
     pub fn new(alloc: Global, count: usize) -> SetMatcherBuilder
         ensures none { result.given ≡ [] }
         ensures count { result.count ≡ count }

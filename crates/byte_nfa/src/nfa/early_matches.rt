@@ -10,7 +10,7 @@ use crate::state::State;
 use std::alloc::AllocError;
 
 impl Nfa {
-    /// Returns the automaton in which each state that decides an index `k` is an end, of the index `index_count + k`.
+    /// Returns the automaton where each state that decides an index `k` is an end, of the index `index_count + k`.
     ///
     /// A state decides an index if it stays on every byte and goes on to an end of that index alone, or to a state that decides
     /// it. A text leads to an end of the index exactly if in the new automaton it does, or some beginning of it leads to an end

@@ -14,7 +14,7 @@ use crate::state::is_in;
 use bit_sets::{StateSet, Visits};
 
 impl Nfa {
-    /// Puts the states from which some bytes lead to an end into a set. What the set held has no effect.
+    /// Puts the states from which some bytes lead to an end into a set. The set's old contents have no effect.
     ///
     /// It reads each state.
     pub fn live(&self, into: &mut StateSet)
@@ -30,8 +30,8 @@ impl Nfa {
         }
     }
 
-    /// Returns whether some bytes lead from the states of a set to an end. `live` has the states from which some do. It reads
-    /// each state of the set at most once, which is one visit.
+    /// Returns whether some bytes lead from the states of a set to an end. `live` has all such states. It reads each state of the
+    /// set at most once, which is a visit.
     pub fn has_live(&self, from: &StateSet, live: &StateSet, visits: &mut Visits) -> bool
         requires from_capacity { size self.now ≤ state_capacity from.now }
         requires live_capacity { size self.now ≤ state_capacity live.now }

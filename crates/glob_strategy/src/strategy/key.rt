@@ -52,7 +52,7 @@ fn literal_len(tokens: &[Token]) -> usize {
 }
 
 /// Returns the tokens from the last literal `.` on if all tokens after it are literals other than `/`, and `None` otherwise. It
-/// reads the tokens from the end to that `.`, or to the first one that is not such a literal.
+/// reads the tokens from the end to that `.`, or to the first that is not such a literal.
 pub fn ending(tokens: &[Token]) -> Option<&[Token]>
     ensures text { option_map (λ last. literal_text (flats last.now)) result
         ≡ ending (flats tokens.now) }

@@ -17,7 +17,7 @@ impl Automata {
     /// Returns whether tokens match the part that they are run on of some path below a folder.
     ///
     /// A path below the folder may have any last component, so no automaton is run for that. It may have any extension, so the
-    /// automata of all extensions are run over the folder. Each is run by the rows of its cache if there is one. The sets get
+    /// automata of all extensions are run over the folder. Each is run by the rows of its cache if there is any. The sets get
     /// room for each state of an automaton that is stepped.
     pub fn can_match_below(
         &self,
