@@ -24,7 +24,7 @@ abbrev pub after_prefix : Tokens → Tokens
 after_prefix end = end
 after_prefix (and_then t ts) = if is_prefix t then ts else and_then t ts
 
--- the tokens before the last ones, if these are a literal `.` and any literals other than `.` and `/`; otherwise all tokens
+-- the tokens before the last, if these are a literal `.` and any literals other than `.` and `/`; otherwise all tokens
 abbrev pub before_ending : Tokens → Tokens
 before_ending end = end
 before_ending (and_then t ts) = if is_extension (and_then t ts) then end else and_then t (before_ending ts)

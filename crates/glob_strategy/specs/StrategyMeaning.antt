@@ -54,7 +54,7 @@ has_automaton Basename = true
 has_automaton Path = true
 
 -- The strategy is the table's, and it is sound for a glob with these tokens, every path and every folder. It has an automaton
--- only if the glob is not direct, and has it run only where the glob needs one. Its key is bytes.
+-- only if the glob is not direct, and runs it only where the glob needs it. Its key is bytes.
 pub record IsStrategyOf (o : Options) (ts : Tokens) (strategy : MatchStrategy) : Type 0 where
   pub in_table : strategy_seen strategy ≡ strategy_of_tokens o ts
   pub tells : (path : List ℕ) → StrategyIsSound (strategy_seen strategy) o ts path

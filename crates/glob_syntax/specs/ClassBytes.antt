@@ -1,9 +1,9 @@
 -- The bytes that a character class contains.
 --
 -- A class matches single bytes, each a number from 0 to 255. A range with equal ends contains the bytes of its character in
--- UTF-8. Any other range contains UTF-8 bytes of its two characters: the bytes of the first character except its last; every byte
--- from that last byte up to the first byte of the second character; and the other bytes of the second character. So `[a-z]`
--- contains the lowercase ASCII letters, and `[é-ü]` contains C3, every byte from A9 to C3, and BC.
+-- UTF-8. Any other range contains UTF-8 bytes of its two characters. These are the bytes of the first character except its last;
+-- every byte from that last byte up to the first byte of the second character; and the other bytes of the second character. So
+-- `[a-z]` contains the lowercase ASCII letters, and `[é-ü]` contains C3, every byte from A9 to C3, and BC.
 use Rattle.std.specs.Prelude.{ℕ, Bool, false, not, ◌&&◌, ◌||◌, ◌==◌, nat_le, List, [], ◌∷◌, if◌then◌else◌, encode_utf8}
 use Rattle.std.specs.List.{list_any}
 use Rattle.std.specs.Char.{to_ascii_lowercase, to_ascii_uppercase}

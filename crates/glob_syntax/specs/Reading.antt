@@ -10,7 +10,7 @@ use Rattle.glob_syntax.specs.Stars.{is_run, piece}
 -- ---- branches
 
 -- The reading of some last lexemes of a glob. They may begin inside groups. The first part has the branches of the innermost open
--- group, from the branch in which the lexemes begin; the list has the branches of each group around it, from the inside out. The
+-- group, from the branch in which the lexemes begin. The list has the branches of each group around it, from the inside out. The
 -- whole glob counts as the only branch of an outermost group.
 abbrev pub Levels : Type 0
 Levels = Branches × List Branches

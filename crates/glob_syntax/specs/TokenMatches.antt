@@ -1,4 +1,4 @@
--- Which lists of bytes a token matches. Such a list is a whole path or a piece of one. A byte is a number from 0 to 255.
+-- The lists of bytes that a token matches. Such a list is a whole path or a piece of a path. A byte is a number from 0 to 255.
 use Rattle.std.specs.Prelude.{ℕ, Bool, true, false, not, ◌&&◌, ◌||◌, ◌==◌, List, [], ◌∷◌, map, if◌then◌else◌, encode_utf8}
 use Rattle.std.specs.Char.{to_ascii_lowercase}
 use Rattle.std.specs.List.{list_all}

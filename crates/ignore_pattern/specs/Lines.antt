@@ -35,8 +35,8 @@ abbrev pub before_kept : ℕ → List ℕ → List ℕ
 before_kept c [] = if c == 32 then [] else c ∷ []
 before_kept c (d ∷ ds) = c ∷ d ∷ ds
 
--- The bytes without the spaces at their end. A space after a `\` that escapes it stays, and so do the bytes before it. Only
--- spaces go, and no other white space.
+-- The bytes without the spaces at their end. A space after a `\` that escapes it stays, and so do the bytes before it. Other
+-- white space stays.
 abbrev pub without_spaces : List ℕ → List ℕ
 without_spaces [] = []
 without_spaces (c ∷ []) = before_kept c []

@@ -23,7 +23,7 @@ is_written negated items c = if c == 47 then negated else list_any (item_has c) 
 abbrev pub has_place : ℕ → Bool
 has_place c = (c == 93 || c == 33) || (c == 94 || c == 45)
 
--- the written ones among these characters
+-- the written characters among these
 abbrev pub written : Bool → List Item → List ℕ → List ℕ
 written negated items cs = filter (is_written negated items) cs
 
