@@ -89,7 +89,7 @@ impl ByteSet {
         }
     }
 
-    /// Returns the set together with each byte `b` for which another set has exactly one of `b` and `b + 1`.
+    /// Returns the set together with each byte `b` where another set has exactly one of `b` and `b + 1`.
     pub fn with_boundaries(self, other: &ByteSet) -> ByteSet
         ensures { (b : ℕ) → b + 1 < 256
             → has_byte result b

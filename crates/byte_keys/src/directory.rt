@@ -86,7 +86,7 @@ fn starts_of(alloc: Global, buckets: &[u32], count: usize) -> Result<Vec<u32>, A
     Ok(starts)
 }
 
-/// Returns the first place from `from` on at which the bucket is not below another.
+/// Returns the first place from `from` on where the bucket is not below another.
 fn skip_below(buckets: &[u32], from: usize, bucket: usize) -> usize
     requires bound { from ≤ length buckets.now }
     requires before { (k : ℕ) → k < from → slice_index buckets.now k < bucket }

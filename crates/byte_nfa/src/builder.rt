@@ -30,8 +30,8 @@ use std::marker::Model;
 /// let automaton = builder.finish();
 /// ```
 ///
-/// A call that pushes changes nothing if it fails. It fails if memory runs out. Equal sets of bytes are stored once, as far as
-/// they are found again, and have numbers below `2^32`: if sets of 128 GiB use these up, that is the same error.
+/// A call that pushes changes nothing if it fails. Equal sets of bytes are stored once, as far as they are found again, and have
+/// numbers below `2^32`: if sets of 128 GiB use these up, the error is that memory ran out.
 pub struct Builder {
     states: Vec<State>,
     /// The sets of bytes of the states. A set can stand here more than once.

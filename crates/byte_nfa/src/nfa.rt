@@ -103,7 +103,7 @@ impl Nfa {
     }
 
     /// Puts the index of each end that the states of a set lead to without a byte into a set of indexes, next to its contents.
-    /// The states to which a state of `from` leads without a byte are put into `from`. It reads each state at most once.
+    /// The states that a state of `from` leads to without a byte are put into `from`. It reads each state at most once.
     pub fn ends(&self, from: &mut StateSet, into: &mut IndexSet)
         requires from_capacity { size self.now ≤ state_capacity from.old }
         requires into_capacity { self.now.index_count ≤ index_capacity into.old }
@@ -155,7 +155,7 @@ impl Nfa {
     }
 
     /// Returns a number that is the same for bytes that are read alike, and mostly differs for others. It has a bit for each set
-    /// of bytes that has the byte, and one of 64 bits may stand for several sets.
+    /// of bytes that has the byte, and each of its 64 bits may stand for several sets.
     pub fn kind_of(&self, byte: u8) -> u64 {
         let mut kind = 0;
         let mut bit = 1u64;

@@ -48,7 +48,7 @@ impl State {
         }
     }
 
-    /// Takes the steps of a state at the end of the text: puts the states to which it leads without a byte into `from`. Returns
+    /// Takes the steps of a state at the end of the text: puts the states that it leads to without a byte into `from`. Returns
     /// its index if it is an end.
     pub fn follow_epsilons(&self, s: usize, targets: &[usize], from: &mut StateSet) -> Option<usize>
         requires below { (sets : List ByteSet) × IsHeld sets targets.now self.now
@@ -108,7 +108,7 @@ impl State {
         }
     }
 
-    /// Returns a set together with each byte by which a state leads to a state of `accepting`.
+    /// Returns a set together with each byte that leads a state to a state of `accepting`.
     pub fn add_last_bytes(
         &self,
         s: usize,
@@ -133,7 +133,7 @@ impl State {
         }
     }
 
-    /// Returns a set together with each byte `b` for which a state reads or stays on exactly one of `b` and `b + 1`.
+    /// Returns a set together with each byte `b` where a state reads or stays on exactly one of `b` and `b + 1`.
     pub fn add_boundaries(&self, sets: &[ByteSet], bytes: ByteSet) -> ByteSet
         requires { (targets : List ℕ) × IsHeld sets.now targets self.now }
         ensures { (targets : List ℕ)

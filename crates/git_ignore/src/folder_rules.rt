@@ -97,8 +97,8 @@ pub fn decide_below(
     decide_alone(files, path, is_folder, scratch)
 }
 
-/// Returns whether files ignore a folder above a path, which begins in the top folder. None of the folders that end before `start` is
-/// ignored.
+/// Returns whether files ignore a folder above a path, which begins in the top folder. None of the folders that end before
+/// `start` is ignored.
 fn ignores_above(
     files: &[FolderRules],
     path: &[u8],

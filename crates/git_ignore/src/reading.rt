@@ -56,7 +56,7 @@ impl RulesBuilder {
         self.push_line(alloc, number, rest)
     }
 
-    /// Adds the rule of a line, if it has one.
+    /// Adds the rule of a line, if there is any.
     fn push_line(&mut self, alloc: Global, number: usize, line: &[u8]) -> Result<(), Error>
         ensures rule { OnOk result
             (AddsRules (rule_at number (read_pattern line.now)) self.old.globs.items

@@ -47,8 +47,6 @@ impl Rules {
     /// Reads an ignore file, given by its bytes. Each line has a rule or none. Lines that git cannot read have none, and lines
     /// that no glob can express, such as lines that are not UTF-8. That is no error: [`Rules::unread_lines`] returns their
     /// numbers.
-    ///
-    /// Returns an error only if memory runs out.
     pub fn new(alloc: Global, file: &[u8]) -> Result<Rules, Error>
         ensures file { IfOk result (λ r. r.file ≡ file.now) }
         ensures err { IsOkUnless result out_of_memory }
@@ -109,7 +107,7 @@ impl Rules {
     /// The decision about a folder is put at the index of the `/` after it in the path, unless a decision is there already: an
     /// item that is not [`Decision::Undecided`] stays as it is. So calls for several files, deeper folders first, find the
     /// decisions of all the files. The path below the folder of the file begins at `start`. Folders that end before are left out,
-    /// and folders for which `decisions` is too short. All other items stay as they are.
+    /// and folders beyond the end of `decisions`. All other items stay as they are.
     ///
     /// Each folder takes a pass over its whole path, with a scratch of the call's own. After an error no decision is put.
     pub fn decide_folders(

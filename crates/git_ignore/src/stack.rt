@@ -81,7 +81,8 @@ impl IgnoreStack {
         })
     }
 
-    /// Returns the path of the folder that the walk is in, from the top folder on: empty for this, and otherwise with `/` at its end.
+    /// Returns the path of the folder that the walk is in, from the top folder on: empty for this, and otherwise with `/` at its
+    /// end.
     pub fn folder(&self) -> &[u8]
         ensures { result.now ≡ self.now.here.path }
     {
@@ -122,7 +123,8 @@ impl IgnoreStack {
         Ok(())
     }
 
-    /// Goes up to the folder above, without the ignore files that were added since it was left. In the top folder it does nothing.
+    /// Goes up to the folder above, without the ignore files that were added since it was left. In the top folder it does
+    /// nothing.
     pub fn leave(&mut self)
         ensures { self.new ≡ left self.old }
     {

@@ -23,8 +23,8 @@ use std::sync::Arc;
 /// The most bytes that rows are kept in between calls, unless another limit is set: 16 MiB.
 pub const DEFAULT_DFA_SIZE_LIMIT: usize = 1 << 24;
 
-/// An automaton in the form in which it is run: by rows that are known, otherwise by rows that are made, and where there is no
-/// room for rows, stepped from a set of states to the next. Contracts see the automaton from which it was made.
+/// An automaton, compiled for running: by rows that are known, otherwise by rows that are made, and where there is no room for
+/// rows, stepped from a set of states to the next. Contracts see the original automaton.
 #[derive(Drop)]
 pub struct Compiled {
     source: Source,

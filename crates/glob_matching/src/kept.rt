@@ -133,7 +133,7 @@ impl KeptCaches {
     }
 
     /// Gives a cache back after a call, for later calls. In a call that may allocate, a cache without room for all rows makes way
-    /// for a larger cache. A cache that enough calls used is published, and the next call for which it lacks an entry makes
+    /// for a larger cache. A cache that enough calls used is published, and the next call that misses an entry of it makes
     /// another.
     pub fn give(&self, kept: Kept, may_make: bool)
         requires { kept.cache.value ≡ self.now }

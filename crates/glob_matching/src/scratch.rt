@@ -160,7 +160,7 @@ impl Scratch {
     }
 
     /// Returns whether the scratch fits the set or the matcher: whether neither of its numbers is below the need. It fits the set
-    /// or the matcher for which it was made.
+    /// or the matcher that it was made for.
     ///
     /// ```rust
     /// use globset::{Candidate, Glob, GlobSet, Scratch, Visits};

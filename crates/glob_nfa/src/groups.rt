@@ -30,7 +30,7 @@ pub struct Frame {
 impl Frame {
     ghost use Rattle.glob_nfa.specs.inner.Frames.{fresh, led, ended, frame_of, targets_of};
 
-    /// Returns a group of which nothing is built.
+    /// Returns a group with nothing built.
     fn new(alloc: Global, exit: usize) -> Frame
         ensures { frame_of result ≡ fresh exit }
     {

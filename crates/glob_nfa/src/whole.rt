@@ -26,7 +26,7 @@ pub fn new_builder(alloc: Global, index_count: usize) -> Builder
     Builder::new(alloc, index_count)
 }
 
-/// Adds the states of the tokens, and returns the one in which they begin.
+/// Adds the states of the tokens, and returns the state where they begin.
 fn add_whole(
     alloc: Global,
     builder: &mut Builder,

@@ -48,8 +48,8 @@ impl Folders {
 
     /// Returns whether some key begins with the folder and a `/`.
     ///
-    /// It is one visit, and does not allocate. It is a binary search: among at most `2^n` folders of keys it makes at most `n +
-    /// 1` comparisons, each of which reads a byte more than the folder has, at most.
+    /// It is a visit, and does not allocate. It is a binary search: among at most `2^n` folders of keys it makes at most `n + 1`
+    /// comparisons, which read at most a byte more than the folder has.
     pub fn has_below(&self, folder: &[u8], visits: &mut Visits) -> bool
         ensures some { IsTrue result ↔ SomeBelow self.now folder.now }
         ensures visits { visits.new ≡ visits.old + 1 }
@@ -92,7 +92,8 @@ fn copies(alloc: Global, texts: &[&[u8]]) -> Result<Vec<Vec<u8>>, AllocError>
     Ok(copies)
 }
 
-/// Returns where a text is in the order of bytes: before all texts that begin with the folder and a `/`, among them, or after them.
+/// Returns where a text is in the order of bytes: before all texts that begin with the folder and a `/`, among them, or after
+/// them.
 fn place(text: &[u8], folder: &[u8]) -> Ordering
     ensures { result ≡ place_of text.now (folder_start folder.now) }
 {

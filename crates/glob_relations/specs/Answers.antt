@@ -21,8 +21,8 @@ some_match gs path = list_any (λ g. glob_matches g path) gs
 abbrev pub IsCovered : GlobValue → List GlobValue → Domain → Type 0
 IsCovered g by domain = (path : List ℕ) → IsIn domain path → IsTrue (glob_matches g path) → IsTrue (some_match by path)
 
--- The answer is right: the glob is covered; or the path is in the domain, and the glob matches it and no other glob does; or
--- paths lead to more than `limit` different rows of an automaton for the globs.
+-- The answer is right: the glob is covered; or the path is in the domain, and only the glob matches it; or paths lead to more
+-- than `limit` different rows of an automaton for the globs.
 abbrev pub TellsCovering : GlobValue → List GlobValue → Domain → ℕ → Coverage → Type 0
 TellsCovering g by domain limit Covered = IsCovered g by domain
 TellsCovering g by domain limit (Not path) = IsIn domain path.items × IsTrue (glob_matches g path.items) × IsFalse (some_match by path.items)

@@ -14,7 +14,7 @@ pub enum Domain {
 }
 
 impl Domain {
-    /// Returns the place at which a path begins.
+    /// Returns the place where a path begins.
     pub(crate) fn first_place(self) -> Place
         ensures { result ≡ first_place self }
     {

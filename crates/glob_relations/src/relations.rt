@@ -95,7 +95,7 @@ fn intersection_of(answer: Answer) -> Intersection
     }
 }
 
-/// Returns an automaton in which a glob has the index 0, and each of others has the index 1.
+/// Returns an automaton where a glob has the index 0, and each of the others has the index 1.
 fn automaton_of_one(alloc: Global, glob: &Glob, others: &[Glob]) -> Result<Nfa, AllocError>
     ensures { IfOk result
         (λ m. IsFor m (indexed_glob 0 glob.now ∷ indexed_globs 1 others.now)) }
@@ -108,7 +108,7 @@ fn automaton_of_one(alloc: Global, glob: &Glob, others: &[Glob]) -> Result<Nfa, 
     Ok(builder.finish())
 }
 
-/// Returns an automaton in which a glob has the index 0, and another one has the index 1, and none has the index 2.
+/// Returns an automaton where a glob has the index 0, and another has the index 1, and none has the index 2.
 fn automaton_of_two(alloc: Global, a: &Glob, b: &Glob) -> Result<Nfa, AllocError>
     ensures { IfOk result
         (λ m. IsFor m (indexed_glob 0 a.now ∷ indexed_glob 1 b.now ∷ [])) }

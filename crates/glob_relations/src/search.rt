@@ -108,7 +108,7 @@ fn begins_class(boundaries: &ByteSet, byte: u8) -> bool
     byte == 0 || boundaries.has(byte - 1)
 }
 
-/// Returns the row in which a path begins, alone.
+/// Returns the row where a path begins, alone.
 fn first_rows(
     alloc: Global,
     automaton: &Nfa,

@@ -101,8 +101,7 @@ impl Error {
         &self.kind
     }
 
-    /// Returns the offset in the rejected text at which its first error stands, in bytes, or `None` if memory ran out. The offset
-    /// is that of:
+    /// Returns the offset in the rejected text of its first error, in bytes, or `None` if memory ran out. The offset is that of:
     ///
     /// - the `[` of the class, for [`ErrorKind::UnclosedClass`] and [`ErrorKind::InvalidRange`];
     /// - the `}`, for [`ErrorKind::UnopenedAlternates`];

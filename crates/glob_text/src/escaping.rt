@@ -10,7 +10,7 @@ use std::alloc::{AllocError, Global};
 
 /// Returns the text with each of `?`, `*`, `[`, `]`, `{` and `}` in brackets: `a*b` becomes `a[*]b`.
 ///
-/// The result is a glob that matches only the text, if the glob's options are the default ones and the text contains no `\`. A
+/// The result is a glob that matches only the text, if the glob's options are the default options and the text contains no `\`. A
 /// `\` is not changed, and under the default options it escapes the next character. With `backslash_escape` off and the other
 /// default options, the result matches only the text, for every text.
 ///

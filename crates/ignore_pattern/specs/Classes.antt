@@ -45,7 +45,8 @@ named_has Xdigit byte = is_ascii_hexdigit byte
 
 -- ---- items
 
--- The item contains the byte: it is the byte, a range that the byte is in, or a class with a name. A range that goes down has none.
+-- The item contains the byte: it is the byte, a range that the byte is in, or a class with a name. A range that goes down has
+-- none.
 abbrev pub item_has : ℕ → Item → Bool
 item_has byte (Member c) = byte == c
 item_has byte (Range x y) = nat_le x byte && nat_le byte y

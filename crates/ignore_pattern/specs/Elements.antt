@@ -74,8 +74,9 @@ pub record ElementAt : Type 0 where
 abbrev pub at : Element → ℕ → Place → ElementAt
 at element more place = record { element = element; more = more; place = place }
 
--- The last `more` of a run of stars, two or more that may cross, are followed by these bytes. Before a `/` they stand for folders,
--- which may be none, and the `/` belongs to them. At the end and before `\/` they stand for everything. Before anything else they are one `*`.
+-- The last `more` of a run of stars, two or more that may cross, are followed by these bytes. Before a `/` they stand for
+-- folders, which may be none, and the `/` belongs to them. At the end and before `\/` they stand for everything. Before anything
+-- else they are one `*`.
 abbrev pub crossing_at : ℕ → List ℕ → ElementAt
 crossing_at more [] = at Everything more Elsewhere
 crossing_at more (c ∷ []) = if c == 47 then at Folders (suc more) AfterSlash else at Star more Elsewhere

@@ -8,8 +8,8 @@ use Rattle.ignore_pattern.specs.CharacterPatterns.{pattern_of_chars, pattern_mat
 use Rattle.ignore_pattern.specs.Translation.{pattern_text}
 use Rattle.ignore_pattern.specs.Globs.{translated}
 
--- A glob that has the meaning of a pattern, which is given by the paths that it matches: the glob is read, it is not excluded, and it
--- matches these paths.
+-- A glob that has the meaning of a pattern, which is given by the paths that it matches: the glob is read, it is not excluded,
+-- and it matches these paths.
 pub record HasMeaningOf (matches : List ℕ → Bool) (g : GlobValue) : Type 0 where
   pub read : IsRead g
   pub listed : are_excluded g.options (tokens_of_glob g) ≡ false

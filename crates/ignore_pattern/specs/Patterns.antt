@@ -1,5 +1,5 @@
--- The pattern that git reads a line of an ignore file as, the paths that it matches, which are those below the folder of the file,
--- and the patterns that a glob can stand for.
+-- The pattern that git reads a line of an ignore file as, the paths that it matches, which are those below the folder of the
+-- file, and the patterns that a glob can stand for.
 use Rattle.std.specs.Prelude.{ℕ, zero, Bool, true, false, not, ◌&&◌, ◌==◌, List, [], ◌∷◌, Option, Some, None, if◌then◌else◌}
 use Rattle.std.specs.List.{list_any}
 use Rattle.std.specs.Option.{option_map_or}

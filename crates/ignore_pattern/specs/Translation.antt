@@ -35,8 +35,8 @@ spelled x y = x ∷ 45 ∷ y ∷ []
 abbrev pub first_beyond : ℕ → ℕ
 first_beyond x = if nat_lt x 128 then 128 else 128 + x % 64
 
--- The bytes of an item that are not ASCII, as ranges of a glob's class. In UTF-8 a character from U+0080 to U+00BF is C2 and a byte from 80
--- to BF. C2 is in every range that ends with a character that is not ASCII.
+-- The bytes of an item that are not ASCII, as ranges of a glob's class. In UTF-8 a character from U+0080 to U+00BF is C2 and a
+-- byte from 80 to BF. C2 is in every range that ends with a character that is not ASCII.
 abbrev pub beyond_ascii : Item → List ℕ
 beyond_ascii (Member c) = cond (nat_lt c 128) [] (spelled c c)
 beyond_ascii (Named name) = []
@@ -66,8 +66,8 @@ abbrev pub choice : List ℕ → Option (List ℕ)
 choice [] = None
 choice (c ∷ cs) = Some (123 ∷ 92 ∷ c ∷ other_choices cs)
 
--- A class that is not negated, by the two parts of its body. It cannot begin with `!` or `^`, so what has nothing before these is a
--- choice. `None` if nothing is in it.
+-- A class that is not negated, by the two parts of its body. It cannot begin with `!` or `^`, so what has nothing before these is
+-- a choice. `None` if nothing is in it.
 abbrev pub positive : List ℕ → List ℕ → Option (List ℕ)
 positive [] end = choice end
 positive (c ∷ cs) end = Some (91 ∷ c ∷ (cs ++ end ++ 93 ∷ []))
@@ -87,8 +87,8 @@ is_special c = ((c == 63 || c == 42) || (c == 91 || c == 93)) || ((c == 123 || c
 abbrev pub literal_text : ℕ → List ℕ
 literal_text c = if is_special c then 92 ∷ c ∷ [] else c ∷ []
 
--- The text of an element inside a glob. In braces `**/` begins a branch, so it is nothing or ends with `/`, wherever the braces are; and
--- `*{,/**}` is any bytes.
+-- The text of an element inside a glob. In braces `**/` begins a branch, so it is nothing or ends with `/`, wherever the braces
+-- are; and `*{,/**}` is any bytes.
 unfoldable pub element_text : Element → Option (List ℕ)
 element_text (Literal c) = Some (literal_text c)
 element_text Any = Some (codes "?")

@@ -102,7 +102,7 @@ fn is_odd_range(x: char, y: char) -> bool
     odd_start && odd_end
 }
 
-/// Returns the range from `x` to `y`, to which `more` characters belong after its `-`.
+/// Returns the range from `x` to `y`, with `more` characters after its `-`.
 fn range_at(x: char, y: char, more: usize) -> Option<ItemAt>
     ensures value { result ≡ range_at x y more }
     ensures within { IfSome result (λ i. i.more ≡ more) }
@@ -118,7 +118,7 @@ fn range_at(x: char, y: char, more: usize) -> Option<ItemAt>
     })
 }
 
-/// Returns the character as an item, to which `more` characters belong after its first.
+/// Returns the character as an item, with `more` characters after its first.
 fn member(c: char, more: usize) -> ItemAt
     ensures { result ≡ record { item = Member c; more = more; last = Some c } }
 {

@@ -40,7 +40,7 @@
 //! # Differences from git
 //!
 //! The definition says git's reading of a line, byte by byte. A glob can stand for each pattern, except in two kinds of lines,
-//! for which nothing is returned:
+//! where nothing is returned:
 //!
 //! - A line that is not UTF-8, as the text of a glob is.
 //! - A line with a range from a character whose last byte is BF to a character from U+0080 to U+00BF, as `[¿-¿]`. Git gives such

@@ -16,7 +16,7 @@ use std::snapshot::Snapshot;
 
 /// The rows that the texts of a thread needed so far, in a memory of fixed size.
 ///
-/// A cache is made for a [`LazyDfa`]. Contracts see it as the automaton from which that was made: earlier calls have no effect on
+/// A cache is made for a [`LazyDfa`]. Contracts see it as the automaton that this was made from: earlier calls have no effect on
 /// an answer.
 #[derive(Drop)]
 pub struct Cache {

@@ -17,9 +17,9 @@ use byte_nfa::Nfa;
 /// Makes `to` the list of the states that a byte leads to from the states of a set, and `ends` the indexes of the ends that they lead
 /// to without a byte.
 ///
-/// It reads each state at most once, which is a visit. The list is never longer than the visits. The states to which a state of
-/// `from` leads without a byte are put into `from`, before the pass comes to them. A state can be in the list twice: that costs
-/// room, and nothing else.
+/// It reads each state at most once, which is a visit. The list is never longer than the visits. The states that a state of
+/// `from` leads to without a byte are put into `from`, before the pass comes to them. A state can be in the list twice: that
+/// costs room, and nothing else.
 pub fn read(
     automaton: &Nfa,
     byte: u8,

@@ -53,7 +53,7 @@ const PROBES: usize = 8;
 /// The places of the table while there are few rows: it takes time to fill more.
 const FEWEST_PLACES: usize = 1 << 8;
 
-/// The number of rows for which a run remembers that their marks were found.
+/// The number of rows whose found marks a run remembers.
 pub const REMEMBERED: usize = 16;
 
 /// Where a byte leads from a row.
@@ -157,7 +157,7 @@ impl Rows {
         })
     }
 
-    /// Returns the bytes that the rows may take, with the lists of states and indexes, and the table by which rows are found.
+    /// Returns the bytes that the rows may take, with the lists of states and indexes, and the table that finds rows.
     pub fn bytes(&self) -> usize {
         self.entries
             .capacity()
@@ -193,8 +193,8 @@ impl Rows {
         place
     }
 
-    /// Returns where a byte leads from the row at a place. If the row has marks, `ends` afterwards has the indexes of the ends to
-    /// which the row leads without a byte.
+    /// Returns where a byte leads from the row at a place. If the row has marks, `ends` afterwards has the indexes of the ends
+    /// that the row leads to without a byte.
     ///
     /// A known entry is a visit. For an unknown entry each state of the row is read at most once, which is a visit, and the next
     /// row is looked up, which is another.

@@ -41,7 +41,7 @@ pub struct Left {
 impl Rows {
     /// Puts the index of each end that a text leads to, and each index that is decided in it, into a set, next to its contents.
     ///
-    /// The automaton is one with early matches, and its indexes are listed: a run ends where all of them are found. Where rows are
+    /// The automaton has early matches, and its indexes are listed: a run ends where all of them are found. Where rows are
     /// forgotten twice, a part of the text is read by sets of states.
     pub fn find(
         &mut self,

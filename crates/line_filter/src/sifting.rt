@@ -33,8 +33,8 @@ fn zeros(alloc: Global, count: usize) -> Result<Vec<u8>, AllocError>
 /// `numbered`, each line starts with the indexes that the set returns for it, ascending, in decimal and separated by `,`,
 /// and a tab.
 ///
-/// All output for what was read is written before the next read, which may wait: so the output for a line is written as soon as
-/// its LF was read. For an input that does not wait these are large pieces, since up to 64 KiB are read at once. The writer is
+/// All output for the read lines is written before the next read, which may wait: so the output for a line is written as soon as
+/// its LF was read. If reads do not wait, the output comes in large pieces, since up to 64 KiB are read at once. The writer is
 /// flushed at the end alone.
 ///
 /// On success all output was written and the writer was flushed. The call allocates a buffer for input (64 KiB), for pending

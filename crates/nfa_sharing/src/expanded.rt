@@ -1,4 +1,4 @@
-//! The states to which the states of a list lead without a byte.
+//! The states that the states of a list lead to without a byte.
 
 ghost use Rattle.std.specs.Prelude.{◌≤◌, IfOk, IfSome};
 ghost use Rattle.nfa_sharing.specs.inner.Lists.{AcceptAlike};

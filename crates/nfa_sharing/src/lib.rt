@@ -1,8 +1,8 @@
 //! Automata where texts that begin alike share states.
 //!
 //! An automaton for many globs begins in a state of each, and most texts lead to states of many of them. [`shared`] makes an
-//! automaton that leads to the same ends and begins in a single state. There a single state stands for all states to which a text
-//! may lead by steps of the same kind with the same bytes, so a run goes through smaller sets of states.
+//! automaton that leads to the same ends and begins in a single state. There a single state stands for all states that a text may
+//! lead to by steps of the same kind with the same bytes, so a run goes through smaller sets of states.
 #![tactic(auto)]
 
 ghost use Rattle.std.specs.Prelude.{IfOk, IfSome};

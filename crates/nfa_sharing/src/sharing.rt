@@ -130,7 +130,7 @@ impl Sharing {
     }
 }
 
-/// Returns the lists to which the chunks of a list lead and for which no state was made. `None` if the list has a union.
+/// Returns the lists that the chunks of a list lead to and that have no state yet. `None` if the list has a union.
 fn missing_lists(
     alloc: Global,
     automaton: &Nfa,
@@ -152,8 +152,8 @@ fn missing_lists(
     Ok(Some(missing))
 }
 
-/// Pushes a state that stands for a list, and a state for each of its chunks. Returns its number, or `None` if the list has a union
-/// or leads to a list that no state was made for.
+/// Pushes a state that stands for a list, and a state for each of its chunks. Returns its number, or `None` if the list has a
+/// union or leads to a list that no state was made for.
 fn push_list(
     alloc: Global,
     automaton: &Nfa,

@@ -24,7 +24,7 @@ pub fn read(alloc: Global, texts: &[GlobText<'_>]) -> Result<Vec<Glob>> {
     Ok(globs)
 }
 
-/// Adds rounds in which all globs are read, several times if they are few. Freeing them is not measured.
+/// Adds rounds that read all globs, several times if they are few. Freeing them is not measured.
 pub fn add_reading(
     measured: &mut Measured<'_>,
     limits: Limits,
@@ -99,7 +99,7 @@ impl Making for AskedSets<'_> {
     }
 }
 
-/// Adds rounds in which something is made, several times if it takes little time. Freeing it is not measured.
+/// Adds rounds that make something, several times if it takes little time. Freeing it is not measured.
 pub fn add_making<M: Making>(
     measured: &mut Measured<'_>,
     limits: Limits,

@@ -20,7 +20,7 @@ const FEW_ROWS: usize = 1 << 14;
 /// The limit under which no automaton has rows: texts are read by sets of states.
 const NO_ROWS: usize = 0;
 
-/// The globs of the rows of a case so far, and sets of them: one under the default limit, and one under each other limit.
+/// The globs of the rows of a case so far, and sets of them: under the default limit, and under each other limit.
 pub struct Globs {
     alloc: Global,
     globs: Vec<Glob>,

@@ -1,4 +1,4 @@
--- The states as an automaton stores them: a list has the sets of bytes, and another the states to which states lead without a
+-- The states as an automaton stores them: a list has the sets of bytes, and another the states that states lead to without a
 -- byte.
 use Rattle.std.specs.Prelude.{ℕ, ◌+◌, ◌<◌, List, [], ◌∷◌, map, length, slice_index, slice_index_or, slice_range}
 use Rattle.byte_nfa.specs.Steps.{State, bytes_state, union_state, loop_state, match_state, state, NfaValue}
@@ -25,7 +25,7 @@ of_state sets targets (Match k) = match_state k
 abbrev pub of_states : List ByteSet → List ℕ → List declared.State → List State
 of_states sets targets states = map (of_state sets targets) states
 
--- the state's set is among the sets, and the list has the states to which it leads
+-- the state's set is among the sets, and the list has the states that it leads to
 abbrev pub IsHeld : List ByteSet → List ℕ → declared.State → Type 0
 IsHeld sets targets (Bytes n t) = n < length sets
 IsHeld sets targets (Union at) = at + slice_index targets at < length targets

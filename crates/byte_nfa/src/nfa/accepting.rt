@@ -55,7 +55,7 @@ impl Nfa {
         self.states[s].is_accepting(s, &self.targets, accepting)
     }
 
-    /// Returns a set with each byte more by which a state goes on to a state of `accepting`.
+    /// Returns a set together with each byte that leads from some state to a state of `accepting`.
     fn add_last_bytes(&self, s: usize, accepting: &StateSet, set: ByteSet) -> ByteSet
         requires exists { s < size self.now }
         requires room { size self.now ≤ state_capacity accepting.now }

@@ -1,4 +1,4 @@
-//! States from which some bytes lead to an end.
+//! States that can still lead to an end.
 
 ghost use Rattle.std.specs.Prelude.{◌≡◌, ℕ, ◌+◌, ◌<◌, ◌≤◌, ◌↔◌, List, IsTrue};
 ghost use Rattle.byte_nfa.specs.Live.{AreLive};
@@ -14,7 +14,7 @@ use crate::state::is_in;
 use bit_sets::{StateSet, Visits};
 
 impl Nfa {
-    /// Puts the states from which some bytes lead to an end into a set. The set's old contents have no effect.
+    /// Puts the states that can still lead to an end into a set. The set's old contents have no effect.
     ///
     /// It reads each state.
     pub fn live(&self, into: &mut StateSet)

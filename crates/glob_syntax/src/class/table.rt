@@ -55,7 +55,7 @@ fn put_all(table: &mut [Membership; 256], bytes: &[u8])
     }
 }
 
-/// Puts these bytes except the last one into the table, and the bytes from the last one up to `upper`.
+/// Puts these bytes except the last into the table, and the bytes from the last up to `upper`.
 fn put_from_last(table: &mut [Membership; 256], bytes: &[u8], upper: u8)
     ensures { Puts (λ b. is_from_last b bytes.now upper) table.old table.new }
 {

@@ -196,7 +196,7 @@ impl Rows {
         Some(end >= FIRST)
     }
 
-    /// Returns whether it is known to which ends the row at a place leads without a byte, which is a visit. The indexes of these
+    /// Returns whether it is known which ends the row at a place leads to without a byte, which is a visit. The indexes of these
     /// ends are put into a set then.
     pub fn tell_known_end(
         &self,
