@@ -11,7 +11,7 @@ enum Ticks {
     After(Snapshot<Ticks>),
 }
 
-/// How many visits a match has made.
+/// The number of visits that calls have made.
 ///
 /// A visit is a counted read, such as of a state of an automaton, of an entry of a table or of a node of a trie. A function that
 /// makes visits takes a `&mut Visits`, and its contract bounds their number and says that the count never decreases.

@@ -110,8 +110,8 @@ pub fn clear_words(words: &mut [u64], places: &[u64])
     }
 }
 
-/// Returns the highest bit that is set below the bound, or the lowest bit of the last word below the bound where nothing
-/// in this word is set below the bound.
+/// Returns the highest bit that is set below the bound. If the last word below the bound has no such bit, it returns the lowest
+/// bit of that word.
 pub fn last_below(words: &[u64], limit: usize) -> Seen
     requires some { 0 < limit }
     requires within { limit ≤ 64 * length words.now }

@@ -84,7 +84,7 @@ pub(crate) fn rows_of(alloc: Global, bytes: &[u8], pairs: &[Pair]) -> Result<Vec
     Ok(rows)
 }
 
-/// How many rows are compared in turn. So few rows are compared without a hash.
+/// The number of rows that are compared in turn. So few rows are compared without a hash.
 pub(crate) const FEW: usize = 8;
 
 /// Finds the row with a key, by the keys' ends and a directory. Each comparison with a row's key is counted.

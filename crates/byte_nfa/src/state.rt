@@ -91,7 +91,7 @@ impl State {
         }
     }
 
-    /// Returns whether a state is an end, or goes on to a state of a set without a byte, or by a byte to a lower state of the
+    /// Returns whether a state is an end, leads to a state of a set without a byte, or leads by a byte to a lower state of the
     /// set.
     pub fn is_leading(&self, s: usize, sets: &[ByteSet], targets: &[usize], live: &StateSet) -> bool
         requires held { IsHeld sets.now targets.now self.now }

@@ -14,7 +14,7 @@ use ignore_pattern::{IgnorePattern, pattern_of_line};
 use memchr::memchr;
 use std::alloc::Global;
 
-/// What some editors put at the start of a text.
+/// The bytes that some editors put at the start of a text.
 const BYTE_ORDER_MARK: &[u8] = b"\xef\xbb\xbf";
 
 /// The rules that were read so far: their globs, and an entry for each.

@@ -70,7 +70,7 @@ impl Rules {
         decision_by(self.last_entry(path, is_folder, scratch))
     }
 
-    /// Returns the number of the line, counted from 1, that has the last rule that applies to a path; `None` if no rule does.
+    /// Returns the number of the line with the last rule that applies to a path, counted from 1, or `None` if no rule does.
     pub fn deciding_line(
         &self,
         path: &[u8],

@@ -15,9 +15,9 @@ use std::marker::Model;
 /// A folder above the current folder of a walk.
 #[derive(Clone, Copy)]
 pub struct FolderLevel {
-    /// How long its path is.
+    /// The length of its path.
     folder: usize,
-    /// How many files there are in it and above it.
+    /// The number of files in it and above it.
     files: usize,
     /// Whether it is ignored, or a folder above it is.
     is_ignored: bool,
@@ -135,7 +135,7 @@ impl IgnoreStack {
         }
     }
 
-    /// Returns the decision of the ignore files about a path below the folder that the walk is in, such as the name of an entry.
+    /// Returns the decision of the ignore files about a path below the current folder, such as the name of an entry.
     ///
     /// The folders that the path names above its last component count, too: below an ignored folder, the path is ignored.
     ///

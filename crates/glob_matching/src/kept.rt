@@ -16,9 +16,9 @@ use std::sync::atomic::{AtomicUsize, Ordering};
 pub struct Kept {
     /// In a box, so that little is moved.
     pub cache: Box<RowCache>,
-    /// How many bytes its rows may take.
+    /// The bytes that its rows may take.
     bytes: usize,
-    /// How many calls used it.
+    /// The number of calls that used it.
     uses: usize,
 }
 

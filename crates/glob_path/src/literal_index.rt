@@ -103,8 +103,8 @@ impl LiteralIndex {
         self.ends.is_match(path.path(), visits)
     }
 
-    /// Returns whether some key may be found for a path below a folder, which is a path without a `/` at its end. If it is false,
-    /// no path in the folder finds a key, and a walk over a tree of folders need not enter it.
+    /// Returns whether some key may be found for a path below a folder. The folder has no `/` at its end. If it is false, no path
+    /// in the folder finds a key, and a walk over a tree of folders need not enter it.
     ///
     /// It may be true and still no path below the folder find a key, since it lets each path have any last component, any
     /// extension and any end. So it is true for all folders if there is a key for a last component, an extension or an end.

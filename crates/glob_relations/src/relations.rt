@@ -37,7 +37,7 @@ pub enum Intersection {
     Unknown,
 }
 
-/// Returns whether each path of a domain that a glob matches is matched by some of other globs, or else a path that is not.
+/// Returns whether other globs together match each path of a domain that a glob matches, and otherwise a path that they miss.
 ///
 /// Globs match here as their matchers do, also those that a set excludes. It returns [`Coverage::Unknown`] if paths lead to more
 /// than `limit` rows. A row is a set of states of the globs, and a place in the domain. Memory is at most linear in the rows,

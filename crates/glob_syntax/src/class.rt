@@ -89,7 +89,7 @@ pub struct Class {
 struct Parts {
     negated: bool,
     ranges: Vec<(char, char)>,
-    /// How the ranges contain each byte.
+    /// The membership of each byte.
     table: [Membership; 256],
 }
 

@@ -40,7 +40,7 @@ pub fn characters(alloc: Global, text: &str) -> Result<Vec<char>, AllocError>
 /// - `DanglingEscape` for a `\` at the end of the text, under `backslash_escape`;
 /// - `UnclosedAlternates` for a group that is still open at the end of the text.
 ///
-/// `ReadError::Memory` if memory runs out.
+/// Returns `ReadError::Memory` if memory runs out.
 #[tactic(auto, unfolding(crate::specs::Reading::reading))]
 pub fn read_tokens(alloc: Global, options: Options, text: &str) -> Result<Vec<Token>, ReadError>
     ensures value { AgreesWith (λ v. tokens_of v.items) result (reading options (chars text.now)) }

@@ -9,6 +9,10 @@ use std::marker::Model;
 ///
 /// Contracts see the list of the globs. They do not see the limit of [`GlobSetBuilder::dfa_size_limit`], which changes no answer.
 ///
+/// # Errors
+///
+/// Calls that return a [`Result`] fail only if memory runs out. The builder then has the globs that it had before the call.
+///
 /// ```rust
 /// use globset::{Glob, GlobSetBuilder};
 ///
@@ -88,8 +92,7 @@ impl GlobSetBuilder {
 
     /// Adds a glob after the others, and returns the builder, so that calls can be chained.
     ///
-    /// Fails only if memory runs out. The builder then has the globs that it had before the call, and the new glob is dropped.
-    /// [`GlobSetBuilder::push`] does the same, for code that goes on after an error.
+    /// After an error the new glob is dropped. [`GlobSetBuilder::push`] does the same, for code that goes on after an error.
     pub fn add(&mut self, glob: Glob) -> Result<&mut GlobSetBuilder, Error>
         ensures* lends { sem 𝓛 (LendsItself self.entry result) }
         ensures ok { IfOk result (λ b. (b.ghost_name ≡ self.entry.ghost_name)
@@ -104,8 +107,7 @@ impl GlobSetBuilder {
 
     /// Adds a glob after the others, like [`GlobSetBuilder::add`], but returns no reference to the builder.
     ///
-    /// Fails only if memory runs out. The builder then has the globs that it had before the call, and more globs can be added to
-    /// it; the new glob is dropped.
+    /// After an error the new glob is dropped, and other globs can be added.
     ///
     /// ```rust
     /// use globset::{Glob, GlobSetBuilder};
@@ -133,8 +135,6 @@ impl GlobSetBuilder {
     ///
     /// Keys and states take time and memory linear in the texts of the globs, except that some of these are sorted. Rows of
     /// automata are made by calls that match.
-    ///
-    /// Fails only if memory runs out.
     pub fn build(&self) -> Result<GlobSet, Error>
         ensures ok { IfOk result (λ s. set_globs s ≡ builder_globs self.now) }
         ensures err { IsOkUnless result out_of_memory }
@@ -146,8 +146,6 @@ impl GlobSetBuilder {
     /// used again. It keeps the limit of [`GlobSetBuilder::dfa_size_limit`].
     ///
     /// It takes time and memory as [`GlobSetBuilder::build`] does, and gives the memory of the globs back.
-    ///
-    /// Fails only if memory runs out. The builder then has the globs that it had before the call.
     ///
     /// ```rust
     /// use globset::{Glob, GlobSetBuilder};
@@ -171,10 +169,10 @@ impl GlobSetBuilder {
         Ok(set)
     }
 
-    /// Returns the set of the globs that were added, in order, and drops each glob as soon as the set does not need it any more.
+    /// Returns the set of the globs that were added, in order. It drops each glob as soon as the set does not need it any more.
     /// It takes as much time as [`GlobSetBuilder::build`], and less memory, since it frees globs while it makes the set.
     ///
-    /// Fails only if memory runs out. The globs are dropped then, too.
+    /// After an error the globs are dropped, too.
     ///
     /// ```rust
     /// use globset::{Glob, GlobSetBuilder};

@@ -126,8 +126,6 @@ impl GlobSet {
     /// Keys and states take time and memory linear in the texts of the globs, except that some of these are sorted. Rows of
     /// automata are made by calls that match, and those that the set keeps take at most 16 MiB
     /// ([`DEFAULT_DFA_SIZE_LIMIT`](crate::DEFAULT_DFA_SIZE_LIMIT)). [`GlobSetBuilder::dfa_size_limit`] sets another limit.
-    ///
-    /// Fails only if memory runs out.
     pub fn new<'g, I: IntoIterator<Item = &'g Glob>>(
         alloc: Global,
         globs: I,
@@ -150,6 +148,8 @@ impl GlobSet {
 
     /// Returns the set of the globs in a JSON array, in order. Each element is a text or an object with options, and is read as
     /// [`Glob::from_value`] reads it.
+    ///
+    /// # Errors
     ///
     /// Fails with:
     ///

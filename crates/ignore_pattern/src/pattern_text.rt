@@ -12,7 +12,7 @@ use crate::place::Place;
 use crate::text::push_elements;
 use std::alloc::{AllocError, Global};
 
-/// Returns the text of the glob for a pattern of these characters; `None` if the pattern cannot be read or matches nothing, or
+/// Returns the text of the glob for a pattern of these characters. `None` if the pattern cannot be read or matches nothing, or
 /// there are no characters. `whole` says whether the pattern is matched against whole paths.
 pub fn text_of(alloc: Global, whole: bool, cs: &[char]) -> Result<Option<String>, AllocError>
     ensures { IfOk result

@@ -14,8 +14,8 @@ use crate::lists::push_within;
 use bit_sets::{IndexSet, StateSet, Visits};
 use byte_nfa::Nfa;
 
-/// Makes `to` the list of the states that a byte leads to from the states of a set, and `ends` the indexes of the ends that they lead
-/// to without a byte.
+/// Puts the states that a byte leads to from the states of a set into the list `to`. Puts the indexes of the ends that they lead
+/// to without a byte into `ends`.
 ///
 /// It reads each state at most once, which is a visit. The list is never longer than the visits. The states that a state of
 /// `from` leads to without a byte are put into `from`, before the pass comes to them. A state can be in the list twice: that

@@ -32,7 +32,7 @@ pub enum Reached {
 /// Where a run comes to an entry that is not known, or to the end of the text.
 #[derive(Clone, Copy)]
 pub struct Left {
-    /// How many bytes of the text were read.
+    /// The number of bytes of the text that were read.
     pub at: usize,
     /// The place of the row whose entry is not known.
     pub place: usize,

@@ -22,7 +22,7 @@ struct Sharing {
     known: KnownLists,
     waiting: Vec<Vec<usize>>,
     sets: SetNumbers,
-    /// How much work may still be done.
+    /// The work that may still be done.
     left: usize,
 }
 

@@ -100,8 +100,8 @@ impl Automata {
         })
     }
 
-    /// Returns whether an automaton has to be run, and if so, marks the indexes of the globs that match the path, and no others. If
-    /// not, no glob matches, and the sets stay as they are.
+    /// Returns whether an automaton has to be run, and if so, marks exactly the indexes of the globs that match the path. If not,
+    /// no glob matches, and the sets stay as they are.
     ///
     /// The sets get room for each index, and for each state of an automaton that is stepped.
     pub fn find(

@@ -33,7 +33,7 @@ use std::sync::Arc;
 pub struct SetMatcher {
     alloc: Global,
     globs: GivenGlobs,
-    /// How many globs there are. Each index is below it.
+    /// The number of globs. Each index is below it.
     pub(crate) len: usize,
     pub(crate) keys: LiteralIndex,
     /// Automata for the globs that no key decides, if there are such globs. They are in a box, so that a set without them is small.
@@ -107,7 +107,7 @@ impl SetMatcher {
 pub struct SetMatcherBuilder {
     alloc: Global,
     globs: GivenGlobs,
-    /// How many globs were added.
+    /// The number of globs that were added.
     len: usize,
     keys: LiteralIndexBuilder,
     automata: AutomataBuilder,

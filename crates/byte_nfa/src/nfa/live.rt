@@ -53,7 +53,7 @@ impl Nfa {
         false
     }
 
-    /// Returns whether a state is an end, or goes on to a state of a set without a byte, or by a byte to a lower state of the
+    /// Returns whether a state is an end, leads to a state of a set without a byte, or leads by a byte to a lower state of the
     /// set.
     fn is_leading(&self, s: usize, live: &StateSet) -> bool
         requires exists { s < size self.now }

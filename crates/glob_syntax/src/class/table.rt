@@ -4,7 +4,7 @@ ghost use Rattle.std.specs.Prelude.{◌≡◌, ◌==◌, ◌&&◌, nat_le};
 ghost use Rattle.glob_syntax.specs.ClassBytes.{range_has, is_one_of, is_from_last};
 ghost use Rattle.glob_syntax.specs.inner.ClassTable.{IsTableOf, Puts, other_case, with_other_case};
 
-/// How the ranges of a class contain a byte.
+/// The membership of a byte in the ranges of a class.
 #[derive(Clone, Copy)]
 pub enum Membership {
     /// Not at all.

@@ -51,8 +51,8 @@ fn members(rest: &[char]) -> Option<usize>
     }
 }
 
-/// Returns the lexeme at a `[` that `skipped` characters of negation and then `rest` follow, and how many characters belong to
-/// it after the `[`.
+/// Returns the lexeme at a `[`, and the number of its characters after the `[`. After the `[` come `skipped` characters of
+/// negation, and then `rest`.
 ///
 /// `closable` becomes false once no `]` closes a `[`. Then none closes a later `[`, so this never searches again.
 fn class_at<'a>(

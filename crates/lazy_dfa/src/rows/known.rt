@@ -20,8 +20,8 @@ impl Rows {
         self.begin
     }
 
-    /// Returns the place of the row that a byte leads to from the row at a place, if that is known and the row has no marks,
-    /// which is a visit.
+    /// Returns the place of the row that a byte leads to from the row at a place, if that is known and the row has no marks. It
+    /// is a visit.
     #[inline(always)]
     pub fn plain_next(
         &self,
@@ -59,7 +59,7 @@ impl Rows {
     }
 
     /// Returns the place of the row that a byte leads to from the row at a place, if the row has marks, and these and the place
-    /// are known, which is a visit. The set then has the marks: they are put into it, unless the run has found them before.
+    /// are known. It is a visit. The set then has the marks: they are put into it, unless the run has found them before.
     pub fn marked_next(
         &self,
         automaton: &Nfa,

@@ -21,7 +21,7 @@ const ROOM: usize = FULL + (4 << 10);
 /// The output for lines: how it is made, the pending output, and whether there was any. The vectors keep their capacity from line
 /// to line.
 pub struct Output {
-    /// What lines are matched with.
+    /// The searcher that lines are matched with.
     pub searcher: Searcher,
     /// Whether each line starts with the indexes that the set returns for it.
     pub numbered: bool,
