@@ -168,7 +168,7 @@ impl Rules {
         self.stored.set()
     }
 
-    /// Returns what searchers share with the rules. Returns an error only if 2^63 values share it.
+    /// Returns what searchers share with the rules. Fails only if 2^63 values share it.
     pub(crate) fn share(&self) -> Result<Arc<StoredRules>, AllocError>
         ensures { IfOk result (λ stored. arc_value stored ≡ self.now) }
     {

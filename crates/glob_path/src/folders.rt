@@ -49,7 +49,7 @@ impl Folders {
     /// Returns whether some key begins with the folder and a `/`.
     ///
     /// It is a visit, and does not allocate. It is a binary search: among at most `2^n` folders of keys it makes at most `n + 1`
-    /// comparisons, which read at most a byte more than the folder has.
+    /// comparisons. Each reads at most `folder bytes + 1` bytes.
     pub fn has_below(&self, folder: &[u8], visits: &mut Visits) -> bool
         ensures some { IsTrue result ↔ SomeBelow self.now folder.now }
         ensures visits { visits.new ≡ visits.old + 1 }

@@ -44,7 +44,7 @@ use std::sync::Arc;
 ///
 /// # Errors
 ///
-/// Calls that return a [`Result`] fail only if memory runs out. [`GlobSet::from_value`] can also reject the value.
+/// Calls that return a [`Result`] fail only if memory runs out. [`GlobSet::clone`] and [`GlobSet::from_value`] have other errors.
 ///
 /// ```rust
 /// use globset::{Glob, GlobSet};
@@ -176,7 +176,7 @@ impl GlobSet {
     }
 
     /// Returns an equal set, which shares the keys and automata. It does not allocate, and takes little time for sets of any
-    /// size. Returns an error only if 2^63 sets share them.
+    /// size. Fails only if 2^63 sets share them.
     pub fn clone(&self) -> Result<GlobSet, Error>
         ensures ok { IfOk result (λ s. s ≡ self.now) }
         ensures err { IsOkUnless result out_of_memory }

@@ -45,6 +45,8 @@ impl Glob {
     /// An object has the glob's text under the key `glob`. It may have the name of each option as a key, with true or false
     /// under it; an option that it does not have has its default. It may have no other key.
     ///
+    /// # Errors
+    ///
     /// Returns the first of these errors, without an index:
     ///
     /// - [`ValueErrorKind::NotText`] if the value is neither a text nor an object with a text under `glob`;

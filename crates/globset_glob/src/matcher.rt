@@ -31,7 +31,7 @@ use strategy::Strategy;
 ///
 /// # Errors
 ///
-/// Calls that return a [`Result`] fail only if memory runs out.
+/// Calls that return a [`Result`] fail only if memory runs out. [`GlobMatcher::clone`] has another error.
 ///
 /// ```rust
 /// use globset::Glob;
