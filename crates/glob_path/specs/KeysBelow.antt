@@ -19,6 +19,7 @@ pub data MatchesBelow (k : KeyParts) (folder : List ℕ) : Type 0 where
   by_prefix : HasKey (λ key. BeginsWith key (folder_start folder)) k.prefixes → MatchesBelow k folder
   by_shorter_beginning : HasKey (λ key. BeginsWith (folder_start folder) key) k.prefixes → MatchesBelow k folder
 
--- For each folder: some path below it may find a new key exactly if some path may find an old key, or if P holds of the folder.
+-- For each folder: some path below it may find a key among the new keys exactly if some path may find a key among the old keys,
+-- or if P holds of the folder.
 abbrev pub BelowMore : KeyParts → KeyParts → (List ℕ → Type 0) → Type 0
 BelowMore old new P = (folder : List ℕ) → MatchesBelow new folder ↔ (MatchesBelow old folder ⊎ P folder)

@@ -1,7 +1,7 @@
 -- The body of a character class, without its brackets and its negation, as ranges.
 --
--- A body is at least a chain and then, perhaps, a last `-`. A chain is a character, which is not `-` except at the very start of
--- the body, followed any number of times by a `-` and another character. It is the range from its first character to its last,
+-- A body is one or more chains and then, perhaps, a last `-`. A chain is a character, which is not `-` except at the very start
+-- of the body, followed any number of times by a `-` and another character. It is the range from its first character to its last,
 -- which may be the same. A last `-` is a member by itself. So `a-c-e` is a single range, from `a` to `e`, and `ab-` has the
 -- members `a`, `b` and `-`.
 use Rattle.std.specs.Prelude.{ℕ, List, [], ◌∷◌, Bool, true, false, ◌==◌, nat_lt, Option, Some, None}

@@ -150,7 +150,7 @@ abbrev mutual
   DenotesAtom fold any_byte b = (c : ℕ) × (b ≡ c ∷ [])
   DenotesAtom fold (byte x) b = (c : ℕ) × (b ≡ c ∷ []) × IsTrue (is_same fold x c)
   DenotesAtom fold (class_of negated es) b = (c : ℕ) × (b ≡ c ∷ []) × IsTrue (class_of_has fold negated es c)
-  -- a group denotes the same as some row of it
+  -- a group denotes everything that some row of it denotes
   DenotesAtom fold (group_of r rs) b = DenotesRow fold r b ⊎ DenotesSome fold rs b
 
   -- an item: its atom once, any number of times, or at most once
@@ -164,7 +164,7 @@ abbrev mutual
   DenotesRow fold no_item b = b ≡ []
   DenotesRow fold (item i r) b = (x y : List ℕ) × (b ≡ x ++ y) × DenotesItem fold i x × DenotesRow fold r y
 
-  -- some of these rows
+  -- some row of these
   pub DenotesSome : Bool → Rows → List ℕ → Type 0
   DenotesSome fold no_row b = ⊥
   DenotesSome fold (row r rs) b = DenotesRow fold r b ⊎ DenotesSome fold rs b

@@ -31,7 +31,7 @@ IsUpTo [] ys = Unit {0}
 IsUpTo (x ∷ xs) [] = ⊥
 IsUpTo (x ∷ xs) (y ∷ ys) = (x < y) ⊎ ((x ≡ y) × IsUpTo xs ys)
 
--- between two texts, the rests after the first bytes are in order
+-- the rests of a range of texts after the first bytes are in order
 abbrev pub IsOrdered : List Text → ℕ → ℕ → ℕ → Type 0
 IsOrdered texts depth from to =
     (i j : ℕ) (d e : Text) → from ≤ i → i ≤ j → j < to → IsUpTo (drop depth (slice_index_or texts i d).bytes.items) (drop depth (slice_index_or texts j e).bytes.items)

@@ -30,8 +30,8 @@ pub record HasRead (m : NfaValue) (old : Rows) (i : ℕ) (text : List ℕ) (new 
   pub within : left.at ≤ length text
   pub row : (j : ℕ) × IsAt new j left.place × ((z : List ℕ) (k : ℕ) → FindsBy (half m) (AcceptsRow m new j) (drop left.at text ++ z) k ↔ FindsBy (half m) (AcceptsRow m old i) (text ++ z) k)
 
--- The indexes found in the text from the row of number i of the old rows are: the indexes found in the rest from the row at the
--- place of the new rows, and the indexes of the new set, in addition to the old set.
+-- The indexes found in the text from the row of number i of the old rows, together with the old set, are the indexes found in the
+-- rest from the row at the place of the new rows, together with the new set.
 pub record IsLeft (m : NfaValue) (old : Rows) (i : ℕ) (text : List ℕ) (had : IndexSet) (new : Rows) (has : IndexSet) (left : Left) : Type 0 where
   pub within : left.at ≤ length text
   pub row : (j : ℕ) × IsAt new j left.place × ((k : ℕ) → (FindsBy (half m) (AcceptsRow m new j) (drop left.at text) k ⊎ IsTrue (has_index has k)) ↔ (FindsBy (half m) (AcceptsRow m old i) text k ⊎ IsTrue (has_index had k)))

@@ -44,7 +44,7 @@ IsLed m old new text Decided = (z : List ℕ) → (k : ℕ) × FindsBy (half m) 
 IsLed m old new text NoState = (z : List ℕ) (k : ℕ) → FindsBy (half m) (AcceptsFrom m old) (text ++ z) k → ⊥
 IsLed m old new text States = (z : List ℕ) (k : ℕ) → FindsBy (half m) (AcceptsFrom m new) z k ↔ FindsBy (half m) (AcceptsFrom m old) (text ++ z) k
 
--- With every text after this text: the indexes found from the states of the old set are the indexes found in the added text from
--- the states of the new set, and the indexes of the new set of indexes, in addition to the old set.
+-- With every text after this text: the indexes found from the states of the old set, together with the old indexes, are the
+-- indexes found in the added text from the states of the new set, together with the new indexes.
 abbrev pub IsRunOn : NfaValue → StateSet → List ℕ → IndexSet → StateSet → IndexSet → Type 0
 IsRunOn m old text had new has = (z : List ℕ) (k : ℕ) → (FindsBy (half m) (AcceptsFrom m new) z k ⊎ IsTrue (has_index has k)) ↔ (FindsBy (half m) (AcceptsFrom m old) (text ++ z) k ⊎ IsTrue (has_index had k))
