@@ -6,7 +6,7 @@ use Rattle.std.specs.Int.{bit_at}
 unfoldable pub bit_of : List ℕ → ℕ → Bool
 bit_of words k = bit_at (slice_index words (k / 64)) (k % 64) == 1
 
--- what is told of numbers: the lowest from a number on, or that there is none
+-- an answer about numbers: the lowest from a number on, or that there is none
 abbrev pub TellsFirst : (ℕ → Bool) → ℕ → Option ℕ → Type 0
 TellsFirst has from told = MatchOption told ((k : ℕ) → from ≤ k → has k ≡ false) (λ at. (from ≤ at) × (has at ≡ true) × ((k : ℕ) → from ≤ k → k < at → has k ≡ false))
 

@@ -15,7 +15,7 @@ no_bytes = record { words = [] }
 abbrev pub HasEvery : ByteSet → Type 0
 HasEvery set = (c : ℕ) → c < 256 → IsTrue (has_byte set c)
 
--- one of two tests passes, and the other does not
+-- exactly one of two tests passes
 abbrev pub differ : Bool → Bool → Bool
 differ true q = not q
 differ false q = q

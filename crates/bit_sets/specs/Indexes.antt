@@ -15,6 +15,6 @@ has_index set k = bit_of (words_of set) k
 abbrev pub index_capacity : IndexSet → ℕ
 index_capacity set = 64 * length (words_of set)
 
--- the new set has what the old one has, and those of the indexes that the old one has room for
+-- the new set has the old set's members, and those of the indexes that the old set has room for
 abbrev pub HasAlso : IndexSet → IndexSet → List ℕ → Type 0
 HasAlso old new indexes = (k : ℕ) → IsTrue (has_index new k) ↔ ((Contains indexes k × (k < index_capacity old)) ⊎ IsTrue (has_index old k))

@@ -13,7 +13,7 @@ has_state set s = bit_of set.words.items s
 abbrev pub state_capacity : StateSet → ℕ
 state_capacity set = 64 * length set.words.items
 
--- what a look at the states of a set below a bound finds: the highest of them that is in the set, or a lower state that is not, and
--- no state between it and the bound is in the set
+-- The result of a look at the states of a set below a bound: the highest of them that is in the set, or a lower state that is not
+-- in the set. No state between it and the bound is in the set.
 abbrev pub IsHighestBelow : StateSet → ℕ → Seen → Type 0
 IsHighestBelow set limit seen = IsLastBelow set.words.items limit seen

@@ -34,7 +34,7 @@ impl ByteSet {
         ByteSet { words: [0; 4] }
     }
 
-    /// Returns the set of one byte.
+    /// Returns the set of a single byte.
     pub fn only(byte: u8) -> ByteSet
         ensures { (c : ℕ) → has_byte result c ≡ (c == byte) }
     {
@@ -56,7 +56,7 @@ impl ByteSet {
         ByteSet { words }
     }
 
-    /// Returns the set with one byte more.
+    /// Returns the set with another byte.
     pub fn with(self, byte: u8) -> ByteSet
         ensures { (c : ℕ) → has_byte result c ≡ ((c == byte) || has_byte self c) }
     {
@@ -89,7 +89,7 @@ impl ByteSet {
         }
     }
 
-    /// Returns the set with each byte `b` more for which another set has one of `b` and `b + 1`, and not both.
+    /// Returns the set together with each byte `b` where another set has exactly one of `b` and `b + 1`.
     pub fn with_boundaries(self, other: &ByteSet) -> ByteSet
         ensures { (b : ℕ) → b + 1 < 256
             → has_byte result b
@@ -120,7 +120,7 @@ impl ByteSet {
         self.words == other.words
     }
 
-    /// Returns a place for the set in a table of 256 places. The sets of one printable ASCII byte, of all bytes and of all bytes
+    /// Returns a place for the set in a table of 256 places. The sets of a printable ASCII byte, of all bytes and of all bytes
     /// but `/` have different places.
     pub fn place(&self) -> usize
         ensures { result < 256 }

@@ -11,12 +11,12 @@ use std::alloc::{AllocError, Global};
 /// A set of indexes, as a bit for each.
 #[derive(Drop)]
 pub struct IndexSet {
-    /// The word of the indexes below 64, which takes no memory of its own: many sets have no others.
+    /// The word of the indexes below 64, which needs no allocation: many sets have no other indexes.
     first: [u64; 1],
     /// The words of the other indexes.
     rest: Vec<u64>,
-    /// A bit for each word of the rest, which is set if the word has a bit that is. So 64 words without one are passed over at
-    /// once, and only words that have one are cleared.
+    /// A bit for each word of the rest, which is set if the word is not 0. So 64 words of 0 are skipped at once, and only the
+    /// other words are cleared.
     summary: Vec<u64>,
     ghost one: { length first ≡ 1 },
     ghost summed: { IsSummary rest.items summary.items },
@@ -40,8 +40,8 @@ impl IndexSet {
         }
     }
 
-    /// Returns an empty set with room for so many indexes. It takes a bit of memory for each above the first 64, and one more for
-    /// each 64 of these. Returns an error if memory runs out.
+    /// Returns an empty set with room for `indexes` indexes. It allocates a bit for each above the first 64, and another for each
+    /// 64 of these.
     pub fn new(alloc: Global, indexes: usize) -> Result<IndexSet, AllocError>
         ensures room { IfOk result (λ set. indexes ≤ index_capacity set) }
         ensures none { IfOk result (λ set. (k : ℕ) → has_index set k ≡ false) }
@@ -51,8 +51,8 @@ impl IndexSet {
         Ok(set)
     }
 
-    /// Makes room for so many indexes, if there is less. It takes a bit of memory for each above the first 64, and one more for
-    /// each 64 of these. Returns an error if memory runs out. The set has the same indexes in each case.
+    /// Makes room for `indexes` indexes, if there is less. It allocates a bit for each above the first 64, and another for each
+    /// 64 of these. The set has the same indexes in each case.
     pub fn reserve(&mut self, indexes: usize) -> Result<(), AllocError>
         ensures ok { OnOk result (indexes ≤ index_capacity self.new) }
         ensures kept { index_capacity self.old ≤ index_capacity self.new }
@@ -64,8 +64,8 @@ impl IndexSet {
         grow(&mut self.rest, rest)
     }
 
-    /// Takes every index out. The time follows how many were put in; beside that, a word is written for each 4,096 indexes that
-    /// there is room for.
+    /// Takes every index out. The time is linear in the number of indexes that were put in, and writes a word for each 4,096
+    /// indexes of the room.
     pub fn clear(&mut self)
         ensures room { index_capacity self.new ≡ index_capacity self.old }
         ensures none { (k : ℕ) → has_index self.new k ≡ false }
@@ -120,7 +120,7 @@ impl IndexSet {
         set_bit(&mut self.summary, at / 64);
     }
 
-    /// Puts those of some indexes in that there is room for.
+    /// Puts the indexes in that there is room for.
     pub fn put_all(&mut self, indexes: &[usize])
         ensures room { index_capacity self.new ≡ index_capacity self.old }
         ensures has { HasAlso self.old self.new indexes.now }
@@ -141,8 +141,8 @@ impl IndexSet {
         if at < end { Some(at) } else { None }
     }
 
-    /// Pushes the indexes of the set that are below a number, ascending, onto an empty vector. Returns an error if memory runs out;
-    /// some of them are pushed then. It needs no memory if the vector has a capacity of `end`.
+    /// Pushes the indexes of the set that are below a number, ascending, onto an empty vector. After an error some of them are
+    /// pushed. It allocates nothing if the vector has a capacity of `end`.
     pub fn push_below(&self, end: usize, into: &mut Vec<usize>) -> Result<(), AllocError>
         requires { into.old.items ≡ [] }
         ensures pushed { OnOk result

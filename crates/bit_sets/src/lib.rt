@@ -1,8 +1,8 @@
-//! Sets of numbers, as the bits of machine words, and counts of what is read.
+//! Sets of numbers, as the bits of machine words, and counts of reads.
 //!
-//! A [`ByteSet`] is a set of bytes, an [`IndexSet`] a set of indexes for which room is made, and a [`StateSet`] a set of
-//! states, each look at which is counted. A [`Visits`] is a count of reads: contracts speak of it, and it takes no memory and no
-//! time in a running program.
+//! A [`ByteSet`] is a set of bytes, an [`IndexSet`] a set of indexes with room for a number of them, and a [`StateSet`] a set of
+//! states, whose reads are counted. A [`Visits`] is a count of reads: it is for contracts, and has no size and no cost in a
+//! running program.
 #![tactic(auto)]
 
 mod byte_set;

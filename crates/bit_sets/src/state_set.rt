@@ -39,8 +39,7 @@ impl StateSet {
         }
     }
 
-    /// Returns an empty set with room for so many states. It takes a bit of memory for each. Returns an error if memory
-    /// runs out.
+    /// Returns an empty set with room for `states` states. It allocates a bit for each.
     pub fn new(alloc: Global, states: usize) -> Result<StateSet, AllocError>
         ensures room { IfOk result (λ set. states ≤ state_capacity set) }
         ensures least { IfOk result (λ set. state_capacity set < states + 64) }
@@ -55,7 +54,7 @@ impl StateSet {
         })
     }
 
-    /// Makes room for so many states, if there is less. It takes a bit of memory for each. Returns an error if memory runs out.
+    /// Makes room for `states` states, if there is less. It allocates a bit for each.
     pub fn reserve(&mut self, states: usize) -> Result<(), AllocError>
         ensures ok { OnOk result (states ≤ state_capacity self.new) }
         ensures kept { state_capacity self.old ≤ state_capacity self.new }
@@ -99,7 +98,7 @@ impl StateSet {
         }
     }
 
-    /// Returns whether a state is in the set. It is one visit.
+    /// Returns whether a state is in the set. It is a visit.
     pub fn has(&self, state: usize, visits: &mut Visits) -> bool
         requires { state < state_capacity self.now }
         ensures has { result ≡ has_state self.now state }
@@ -109,8 +108,9 @@ impl StateSet {
         has_bit(&self.words, state)
     }
 
-    /// Reads the next state below a bound. This is the highest one that is in the set; or if the word before the bound has
-    /// none, a lower state that is not in the set, and no state between it and the bound is. It is one visit.
+    /// Reads the next state below a bound. This is the highest state below it in the set. If the word before the bound has no
+    /// state, it is a lower state that is not in the set, and no state between it and the bound is in the set either. It is a
+    /// visit.
     pub fn read_below(&self, limit: usize, visits: &mut Visits) -> Seen
         requires some { 0 < limit }
         requires within { limit ≤ state_capacity self.now }

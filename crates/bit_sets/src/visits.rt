@@ -1,4 +1,4 @@
-//! A count of reads, which contracts speak of and which takes no memory and no time in a running program.
+//! A count of reads, for contracts: it has no size and no cost in a running program.
 
 use std::marker::Model;
 use std::mem;
@@ -11,10 +11,10 @@ enum Ticks {
     After(Snapshot<Ticks>),
 }
 
-/// How many visits a match has made.
+/// The number of visits that calls have made.
 ///
-/// A visit is one counted read, such as of a state of an automaton, of an entry of a table or of a node of a trie. A function
-/// that makes visits takes a `&mut Visits`, and its contract says how many it makes at most and that it never sets the count back.
+/// A visit is a counted read, such as of a state of an automaton, of an entry of a table or of a node of a trie. A function that
+/// makes visits takes a `&mut Visits`, and its contract bounds their number and says that the count never decreases.
 ///
 /// In a running program a count has no size, and counting takes no time. In contracts it is a number without an upper
 /// bound.
@@ -53,7 +53,7 @@ impl Visits {
         }
     }
 
-    /// Counts one more visit.
+    /// Counts another visit.
     pub fn tick(&mut self)
         ensures { self.new ≡ self.old + 1 }
     {

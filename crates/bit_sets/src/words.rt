@@ -14,7 +14,7 @@ pub struct Seen {
     pub is_set: bool,
 }
 
-/// Returns how many words have room for so many bits.
+/// Returns the number of words with room for `bits` bits.
 pub fn words_for(bits: usize) -> usize
     ensures room { bits ≤ 64 * result }
     ensures least { 64 * result < bits + 64 }
@@ -27,7 +27,7 @@ pub fn words_for(bits: usize) -> usize
     }
 }
 
-/// Adds words without a bit until there are so many words. Returns an error if memory runs out; the words are then as they were.
+/// Adds words without a bit until there are `count` words. After an error the words are unchanged.
 pub fn grow(words: &mut Vec<u64>, count: usize) -> Result<(), AllocError>
     ensures ok { OnOk result (count ≤ length words.new.items) }
     ensures kept { length words.old.items ≤ length words.new.items }
@@ -67,8 +67,8 @@ pub fn clear_bit(words: &mut [u64], k: usize)
     words[k / 64] = word & !(1u64 << (k % 64));
 }
 
-/// Returns a word that has each bit in which a word and the same word moved down by one bit are different. The lowest bit of
-/// `next` moves in.
+/// Returns a word that has each bit that differs between a word and the same word moved down by a bit. The lowest bit of `next`
+/// moves in.
 pub fn changes(word: u64, next: u64) -> u64
     ensures inside { (i : ℕ) → i < 63
         → bit_at result i ≡ (bit_at word i + bit_at word (i + 1)) % 2 }
@@ -110,8 +110,8 @@ pub fn clear_words(words: &mut [u64], places: &[u64])
     }
 }
 
-/// Returns the highest bit that is set below the bound, or the lowest bit of the last word below the bound where nothing
-/// in this word is set below the bound.
+/// Returns the highest bit that is set below the bound. If the last word below the bound has no such bit, it returns the lowest
+/// bit of that word.
 pub fn last_below(words: &[u64], limit: usize) -> Seen
     requires some { 0 < limit }
     requires within { limit ≤ 64 * length words.now }

@@ -1,4 +1,4 @@
--- What follows from the definition of what a trie finds. The law is the contract of a function of the module `laws`.
+-- A consequence of the definition of a trie's result. The law is the contract of a function of the module `laws`.
 use Rattle.std.specs.Prelude.{◌≡◌, ℕ, ◌↔◌, List, ◌++◌, Contains}
 use Rattle.byte_keys.specs.Entries.{entry}
 use Rattle.byte_keys.specs.declared.anchor.Anchor.{Anchor}

@@ -30,6 +30,6 @@ abbrev pub parts : Anchor → List ℕ → List (List ℕ)
 parts Start p = prefixes p
 parts End p = suffixes p
 
--- the indexes of the texts that a path begins or ends with: shorter texts first, and those of one text in their order
+-- the indexes of the texts that a path begins or ends with: shorter texts first, and the indexes of a text in their order
 abbrev pub found : Texts → List ℕ → List ℕ
 found t p = flat_map (indexes_under t.entries) (parts t.anchor p)

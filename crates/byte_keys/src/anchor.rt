@@ -13,7 +13,7 @@ pub enum Anchor {
 }
 
 impl Anchor {
-    /// Returns a byte of a path, counted from this side, or `None` after the last one.
+    /// Returns a byte of a path, counted from this side, or `None` after the last.
     pub(crate) fn byte(self, path: &[u8], at: usize) -> Option<u8>
         ensures { result ≡ slice_get (from_anchor self path.now) at }
     {

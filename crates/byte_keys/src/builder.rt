@@ -1,4 +1,4 @@
-//! What a table is built from.
+//! Builders of tables.
 
 ghost use Rattle.std.specs.Prelude.{◌≡◌, ◌↔◌, ℕ, IsTrue, List, ◌++◌, ◌∷◌, [], OnOk, OnErr, IfOk};
 ghost use Rattle.byte_keys.specs.Entries.{entry, Entry};
@@ -16,7 +16,7 @@ use std::alloc::{AllocError, Global};
 use std::marker::Model;
 use std::snapshot::Snapshot;
 
-/// Indexes under byte keys, from which a table is built.
+/// Builds a table of indexes under byte keys.
 #[derive(Drop)]
 pub struct TableBuilder {
     bytes: Vec<u8>,
@@ -32,7 +32,7 @@ impl Model for TableBuilder {
 }
 
 impl TableBuilder {
-    /// Returns a builder of no entries, which takes no memory.
+    /// Returns a builder of no entries, which allocates nothing.
     pub fn new(alloc: Global) -> TableBuilder
         ensures { result ≡ [] }
     {
@@ -42,7 +42,7 @@ impl TableBuilder {
         }
     }
 
-    /// Returns a builder of no entries, with room for so many. Returns an error if memory runs out.
+    /// Returns a builder of no entries, with room for `entries` entries.
     pub fn with_capacity(alloc: Global, entries: usize) -> Result<TableBuilder, AllocError>
         ensures { IfOk result (λ builder. builder ≡ []) }
     {
@@ -61,7 +61,7 @@ impl TableBuilder {
 
     /// Adds an index under a key, after those that it has.
     ///
-    /// Returns an error if memory runs out; the builder then has the entries that it had.
+    /// After an error the builder has the same entries as before.
     pub fn insert(&mut self, key: &[u8], index: usize) -> Result<(), AllocError>
         ensures ok { OnOk result (self.new ≡ self.old ++ entry key.now index ∷ []) }
         ensures err { OnErr result (self.new ≡ self.old) }
@@ -77,8 +77,8 @@ impl TableBuilder {
         Ok(())
     }
 
-    /// Adds an index under a key, as [`TableBuilder::insert`] does. The memory of the first key that is not empty becomes that of the
-    /// table, so nothing is copied for a table of one key.
+    /// Adds an index under a key, as [`TableBuilder::insert`] does. The memory of the first key that is not empty becomes the
+    /// table's, so nothing is copied for a table of a single key.
     pub fn insert_owned(&mut self, key: Vec<u8>, index: usize) -> Result<(), AllocError>
         ensures ok { OnOk result (self.new ≡ self.old ++ entry key.items index ∷ []) }
         ensures err { OnErr result (self.new ≡ self.old) }
@@ -96,7 +96,7 @@ impl TableBuilder {
         self.insert(&key, index)
     }
 
-    /// Returns the table of the entries. Returns an error if memory runs out.
+    /// Returns the table of the entries.
     ///
     /// The entries are sorted. The table's memory has no room for more.
     pub fn build(self) -> Result<Table, AllocError>

@@ -19,7 +19,7 @@ pub(crate) struct Directory {
 }
 
 impl Directory {
-    /// Returns a directory that knows no buckets, which takes no memory.
+    /// Returns a directory that knows no buckets, which allocates nothing.
     pub(crate) fn new(alloc: Global) -> Directory
         ensures { result.starts.items ≡ [] }
     {
@@ -29,7 +29,7 @@ impl Directory {
         }
     }
 
-    /// Returns the rows among which the row of a key with a hash is, if there is one.
+    /// Returns the rows that contain the row of a key with this hash, if there is any.
     #[tactic(auto, unfolding(crate::specs::inner::Starts::rows_near))]
     pub(crate) fn near<'a>(&self, rows: &'a [Row], hash: u32) -> &'a [Row]
         ensures { result.now
@@ -46,8 +46,6 @@ impl Directory {
 }
 
 /// Makes the directory of rows that are sorted by their hashes: two to four buckets for each row.
-///
-/// Returns an error if memory runs out.
 pub(crate) fn directory_of(alloc: Global, rows: &[Row]) -> Result<Directory, AllocError>
     requires { IsNonDecreasing (hashes_of rows.now) }
     ensures { IfOk result (λ d. HasStarts rows.now d.shift d.starts.items) }
@@ -88,7 +86,7 @@ fn starts_of(alloc: Global, buckets: &[u32], count: usize) -> Result<Vec<u32>, A
     Ok(starts)
 }
 
-/// Returns the first place from one on at which the bucket is not below another.
+/// Returns the first place from `from` on where the bucket is not below another.
 fn skip_below(buckets: &[u32], from: usize, bucket: usize) -> usize
     requires bound { from ≤ length buckets.now }
     requires before { (k : ℕ) → k < from → slice_index buckets.now k < bucket }

@@ -7,7 +7,7 @@ ghost use Rattle.byte_keys.specs.inner.Ends.{ends_have, HasEnds};
 use crate::rows::Row;
 use bit_sets::ByteSet;
 
-/// The last bytes of some keys, and whether one of the keys is empty.
+/// The last bytes of some keys, and whether any key is empty.
 #[derive(Clone, Copy)]
 pub(crate) struct Ends {
     last: ByteSet,
@@ -25,7 +25,7 @@ impl Ends {
         }
     }
 
-    /// Returns the ends with that of one key more.
+    /// Returns the ends with the end of another key.
     fn with(self, key: &[u8]) -> Ends
         ensures has { ends_have result key.now ≡ true }
         ensures kept { (q : List ℕ) → ends_have self q ≡ true → ends_have result q ≡ true }
@@ -42,7 +42,7 @@ impl Ends {
         }
     }
 
-    /// Returns whether a key may be one of the keys.
+    /// Returns whether this key may be among the keys.
     pub(crate) fn may_have(&self, key: &[u8]) -> bool
         ensures { result ≡ ends_have self.now key.now }
     {

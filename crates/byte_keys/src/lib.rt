@@ -1,10 +1,10 @@
 //! Byte keys with their indexes: which indexes a key has, and the keys that a path begins or ends with.
 //!
-//! [`TableBuilder`] takes keys with their indexes, and [`Table`] is asked for a key. A lookup takes a borrowed key, so nothing is
-//! copied for it, and is one visit. However the keys are chosen, it compares few of them.
+//! [`TableBuilder`] takes keys with their indexes, and [`Table`] looks up a key. A lookup takes a borrowed key, so nothing is
+//! copied for it, and is a visit. It compares few keys, even if they are adversarial.
 //!
-//! A [`Trie`] is built from all its texts at once. A walk over a path reads one node for each byte, and ends as soon as no
-//! text goes on as the path does.
+//! A [`Trie`] is built from all its texts at once. A walk over a path reads a node for each byte, and ends as soon as no text
+//! goes on as the path does.
 #![tactic(auto)]
 
 mod anchor;

@@ -1,4 +1,4 @@
-//! A table of one entry, which is made without an order.
+//! Tables of a single entry, which need no order.
 
 ghost use Rattle.std.specs.Prelude.{◌≡◌, length, IfOk};
 ghost use Rattle.std.specs.List.{All};
@@ -12,7 +12,7 @@ use crate::rows::Row;
 use crate::table::Contents;
 use std::alloc::{AllocError, Global};
 
-/// Returns the contents of the table of one pair. Returns an error if memory runs out.
+/// Returns the contents of the table of a single pair.
 pub(crate) fn contents_of_one(
     alloc: Global,
     bytes: Vec<u8>,

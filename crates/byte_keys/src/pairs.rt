@@ -28,7 +28,7 @@ impl Pair {
     }
 }
 
-/// Sorts pairs by their hashes and keys. Indexes under one key keep their order.
+/// Sorts pairs by their hashes and keys. Indexes under the same key keep their order.
 pub(crate) fn sort(bytes: &[u8], pairs: &mut Vec<Pair>) -> Result<(), AllocError>
     requires { All (IsKept bytes.now) pairs.old.items }
     ensures kept { All (IsKept bytes.now) pairs.new.items }

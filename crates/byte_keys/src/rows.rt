@@ -38,7 +38,7 @@ impl Row {
     }
 }
 
-/// Returns whether the pair after one has another key, or there is none.
+/// Returns whether the next pair has another key, or there is none.
 fn ends_group(bytes: &[u8], pairs: &[Pair], at: usize) -> bool
     requires kept { All (IsKept bytes.now) pairs.now }
     requires at { at < length pairs.now }
@@ -84,7 +84,7 @@ pub(crate) fn rows_of(alloc: Global, bytes: &[u8], pairs: &[Pair]) -> Result<Vec
     Ok(rows)
 }
 
-/// How many rows are compared in turn. So few rows are compared without a hash.
+/// The number of rows that are compared in turn. So few rows are compared without a hash.
 pub(crate) const FEW: usize = 8;
 
 /// Finds the row with a key, by the keys' ends and a directory. Each comparison with a row's key is counted.

@@ -14,7 +14,7 @@ use std::alloc::{AllocError, Global};
 use std::marker::Model;
 use std::snapshot::Snapshot;
 
-/// Indexes under byte keys: under each key those that were added with it, in the order in which they were added.
+/// Indexes under byte keys: under each key the indexes that were added with it, in the order of the additions.
 #[derive(Drop)]
 pub struct Table {
     /// It is `None` if there are no entries. It is in a box, so that little is moved with a table.
@@ -41,7 +41,7 @@ impl Model for Table {
 }
 
 impl Table {
-    /// Returns the table of a builder's entries. Returns an error if memory runs out.
+    /// Returns the table of a builder's entries.
     pub(crate) fn of(
         alloc: Global,
         contents: Contents,
@@ -67,12 +67,10 @@ impl Table {
         }
     }
 
-    /// Returns the indexes under a key, in the order in which they were added; there are none if the table does not have
-    /// the key.
+    /// Returns the indexes under a keyin the order of the additions, or none if the table does not have the key.
     ///
-    /// It is one visit, and copies nothing. `compared` counts the keys that `key` is compared with: with fewer than `2^k`
-    /// entries these are at most `k`, or at most 8 if `k` is less. A comparison reads at most as many bytes of another key
-    /// as `key` has.
+    /// It is a visit, and copies nothing. `compared` counts the keys that `key` is compared with: with fewer than `2^k` entries
+    /// these are at most `k`, or at most 8 if `k` is less. A comparison reads at most `key.len()` bytes of another key.
     pub fn get(&self, key: &[u8], visits: &mut Visits, compared: &mut Visits) -> &[usize]
         ensures indexes { result.now ≡ indexes_under self.now key.now }
         ensures visits { visits.new ≡ visits.old + 1 }

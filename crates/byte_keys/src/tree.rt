@@ -18,7 +18,7 @@ struct Node {
 
 /// Nodes, each for the texts that begin with the bytes on the way to it. The root is the node 0.
 ///
-/// Edges lie in order of node and byte. Each leads to a node of its own, whose number is one more than the edge's.
+/// Edges lie in order of node and byte. Each leads to a node of its own, whose number is the edge's plus 1.
 #[derive(Drop)]
 pub struct Tree {
     nodes: Vec<Node>,
@@ -26,17 +26,17 @@ pub struct Tree {
     indexes: Vec<usize>,
 }
 
-/// What one reading of a node gives.
+/// The result of reading a node.
 #[derive(Drop)]
 pub struct Reading<'t> {
     /// The indexes of the texts that end at the node.
     pub indexes: &'t [usize],
-    /// The node that the next byte leads to, if there is one.
+    /// The node that the next byte leads to, if there is any.
     pub child: Option<usize>,
 }
 
 impl Tree {
-    /// Reads a node: its indexes, and the child that the next byte leads to. It is one visit.
+    /// Reads a node: its indexes, and the child that the next byte leads to. It is a visit.
     pub fn read(&self, node: usize, next: Option<u8>, visits: &mut Visits) -> Reading<'_>
         requires tree { IsTree self.now }
         requires node { node < node_count self.now }

@@ -17,7 +17,7 @@ use std::alloc::{AllocError, Global};
 use std::marker::Model;
 use std::snapshot::Snapshot;
 
-/// Texts with indexes, which are looked for at one side of a path.
+/// Texts with indexes, to look for at a side of a path.
 #[derive(Drop)]
 pub struct Trie {
     /// It is `None` if there are no texts. It is in a box, so that little is moved with a trie.
@@ -37,8 +37,7 @@ impl Model for Trie {
 impl Trie {
     /// Returns a trie of texts, which are looked for at a side of a path.
     ///
-    /// Returns an error if memory runs out. The time is linear in the bytes of all texts, except that the texts are sorted. With no
-    /// texts it allocates nothing.
+    /// The time is linear in the bytes of all texts, except that the texts are sorted. With no texts it allocates nothing.
     pub fn new(alloc: Global, anchor: Anchor, texts: Vec<Text>) -> Result<Trie, AllocError>
         ensures { IfOk result
             (λ t. t ≡ record { anchor = anchor; entries = map entry_of texts.items }) }
@@ -67,10 +66,10 @@ impl Trie {
         self.tree.is_none()
     }
 
-    /// Puts the indexes of the texts that the path begins or ends with into a set, beside what it holds: those that it has room
-    /// for. It takes no memory.
+    /// Puts the indexes of the texts that the path begins or ends with into a set, next to its contents: those that it has room
+    /// for. It does not allocate.
     ///
-    /// It is at most one visit for each byte of the path, and one more.
+    /// It is at most `path bytes + 1` visits.
     // Most sets have no texts with this anchor: the test for that is a part of the caller.
     #[inline(always)]
     pub fn find(&self, path: &[u8], into: &mut IndexSet, visits: &mut Visits)
@@ -84,9 +83,9 @@ impl Trie {
         }
     }
 
-    /// Returns whether the path begins or ends with some text. It stops at the first, and takes no memory.
+    /// Returns whether the path begins or ends with some text. It stops at the first, and does not allocate.
     ///
-    /// It is at most one visit for each byte of the path, and one more.
+    /// It is at most `path bytes + 1` visits.
     #[inline(always)]
     pub fn is_match(&self, path: &[u8], visits: &mut Visits) -> bool
         ensures some { IsTrue result ↔ (found self.now path.now ≢ []) }
@@ -99,9 +98,9 @@ impl Trie {
         }
     }
 
-    /// Returns how many indexes of texts the path begins or ends with, each as often as it was given. It takes no memory.
+    /// Returns how many indexes of texts the path begins or ends with, each as often as it was given. It does not allocate.
     ///
-    /// It is at most one visit for each byte of the path, and one more.
+    /// It is at most `path bytes + 1` visits.
     #[inline(always)]
     pub fn count_matches(&self, path: &[u8], visits: &mut Visits) -> usize
         ensures count { result ≡ length (found self.now path.now) }

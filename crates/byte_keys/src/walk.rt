@@ -9,7 +9,7 @@ use crate::anchor::Anchor;
 use crate::tree::Tree;
 use bit_sets::{IndexSet, Visits};
 
-/// Puts the indexes of the nodes along a path into a set, beside what it holds: those that it has room for.
+/// Puts the indexes of the nodes along a path into a set, next to its contents: those that it has room for.
 #[inline(never)]
 pub fn find(tree: &Tree, anchor: Anchor, path: &[u8], into: &mut IndexSet, visits: &mut Visits)
     requires { IsTree tree.now }

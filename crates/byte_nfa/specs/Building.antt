@@ -1,4 +1,4 @@
--- What a push adds to an automaton.
+-- The effect of a push on an automaton.
 use Rattle.std.specs.Prelude.{◌≡◌, ℕ, ◌+◌, ◌<◌, ◌≤◌, List, [], ◌∷◌, ◌++◌, length}
 use Rattle.byte_nfa.specs.Steps.{State, state, NfaValue}
 
@@ -10,7 +10,7 @@ Agrees a b low high = (s : ℕ) → low ≤ s → s < high → state a s ≡ sta
 abbrev pub Keeps : List State → List State → Type 0
 Keeps old new = (length old ≤ length new) × Agrees new old 0 (length old)
 
--- s is the state st, in each list that agrees with the new one where states were added
+-- s is the state st, in each list that agrees with the new list where states were added
 abbrev pub Adds : List State → List State → ℕ → State → Type 0
 Adds old new s st = (a : List State) (low : ℕ) → low ≤ length old → Agrees a new low (length new) → state a s ≡ st
 

@@ -1,11 +1,11 @@
--- States that decide an index: whatever bytes follow, the text leads to an end of the index, and to no other end.
+-- States that decide an index: with any bytes after it, the text leads to an end of the index, and to no other end.
 use Rattle.std.specs.Prelude.{◌≡◌, ℕ, ◌+◌, ◌*◌, ◌<◌, ◌⊎◌, List, [], ◌∷◌, length}
 use Rattle.bit_sets.specs.declared.byte_set.ByteSet.{ByteSet}
 use Rattle.bit_sets.specs.Bytes.{HasEvery}
 use Rattle.byte_nfa.specs.Steps.{State, loop_state, match_state, state, NfaValue}
 
--- The state s stays on every byte, and goes on to one state, which is an end of the index k or decides k itself, as the first of
--- several stars does.
+-- The state s stays on every byte, and leads to a single state, which is an end of the index k or decides k itself, as the first
+-- of several stars does.
 pub data Decides (a : List State) : ℕ → ℕ → Type 0 where
   before_end : (s k t : ℕ) (w : ByteSet) → state a s ≡ loop_state w (t ∷ []) → HasEvery w → state a t ≡ match_state k → Decides a s k
   before_other : (s k t : ℕ) (w : ByteSet) → state a s ≡ loop_state w (t ∷ []) → HasEvery w → Decides a t k → Decides a s k
@@ -14,7 +14,7 @@ pub data Decides (a : List State) : ℕ → ℕ → Type 0 where
 abbrev pub IsAtEarlyMatch : List State → ℕ → ℕ → State → Type 0
 IsAtEarlyMatch a n s st = ((k : ℕ) × Decides a s k × (st ≡ match_state (n + k))) ⊎ (((k : ℕ) → Decides a s k → ⊥) × (st ≡ state a s))
 
--- the new automaton is the old one with an end in place of each state that decides an index; the indexes of these ends are
+-- the new automaton is the old automaton with an end instead of each state that decides an index; the indexes of these ends are
 -- above the old indexes
 pub record EndsAtEarlyMatches (old new : NfaValue) : Type 0 where
   pub below : (s k : ℕ) → state old.states s ≡ match_state k → k < old.index_count

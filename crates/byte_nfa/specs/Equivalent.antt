@@ -11,7 +11,7 @@ reads_byte (union_state us) c = false
 reads_byte (loop_state w us) c = has_byte w c
 reads_byte (match_state k) c = false
 
--- the new set has also each byte of which the state reads it, or the one after it, and not both
+-- the new set has also each byte b for which the state reads exactly one of b and b + 1
 abbrev pub HasAlsoBoundaries : State → ByteSet → ByteSet → Type 0
 HasAlsoBoundaries st old new = (b : ℕ) → b + 1 < 256 → has_byte new b ≡ (differ (reads_byte st b) (reads_byte st (b + 1)) || has_byte old b)
 

@@ -1,4 +1,4 @@
--- What a set of states accepts.
+-- The texts that a set of states accepts.
 use Rattle.std.specs.Prelude.{ℕ, ◌+◌, ◌*◌, ◌<◌, ◌↔◌, List, [], ◌∷◌, ◌++◌, length, IsTrue}
 use Rattle.bit_sets.specs.Bytes.{has_byte}
 use Rattle.bit_sets.specs.StateSets.{has_state}
@@ -10,8 +10,8 @@ use Rattle.bit_sets.specs.declared.state_set.StateSet.{StateSet}
 abbrev pub size : NfaValue → ℕ
 size m = length m.states
 
--- the most reads of an automaton for each position of a text: its states, and for each start three more. Those of one start are
--- room for the look at the text's last byte, for an entry of a row that is read in vain, and for the look-up of a row.
+-- the most reads of an automaton for each position of a text: its states, and three more for each start. The three are for the
+-- look at the text's last byte, for an entry of a row that is read in vain, and for the look-up of a row.
 abbrev pub max_reads : NfaValue → ℕ
 max_reads m = size m + 3 * length m.starts
 

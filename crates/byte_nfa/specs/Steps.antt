@@ -3,8 +3,8 @@ use Rattle.std.specs.Prelude.{◌≡◌, ℕ, ◌⊎◌, List, [], ◌∷◌, sl
 use Rattle.bit_sets.specs.declared.byte_set.ByteSet.{ByteSet}
 use Rattle.bit_sets.specs.Bytes.{has_byte}
 
--- a state reads a byte of a set and goes on to one state; or goes on without a byte to any of some states;
--- or does that and also stays on each byte of a set; or is an end, and names an index
+-- A state reads a byte of a set and leads to a single state; or leads without a byte to any of some states; or does that and also
+-- stays on each byte of a set. An end names an index.
 pub data State : Type 0 where
   bytes_state : ByteSet → ℕ → State
   union_state : List ℕ → State

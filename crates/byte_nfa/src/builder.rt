@@ -30,8 +30,8 @@ use std::marker::Model;
 /// let automaton = builder.finish();
 /// ```
 ///
-/// Each call that pushes returns an error if memory runs out, and then changes nothing. Sets of bytes are kept once each, as far
-/// as they are found again, and have numbers below `2^32`: if sets of 128 GiB use these up, that is the same error.
+/// A call that pushes changes nothing if it fails. Equal sets of bytes are stored once, as far as they are found again, and have
+/// numbers below `2^32`: if sets of 128 GiB use these up, the error is that memory ran out.
 pub struct Builder {
     states: Vec<State>,
     /// The sets of bytes of the states. A set can stand here more than once.
@@ -139,7 +139,7 @@ impl Builder {
         Ok(at)
     }
 
-    /// Makes a state one of those that the automaton begins in.
+    /// Makes a state a start of the automaton.
     pub fn add_start(&mut self, state: usize) -> Result<(), AllocError>
         requires { state < size self.old }
         ensures starts { OnOk result (self.new.starts ≡ self.old.starts ++ state ∷ []) }

@@ -1,8 +1,8 @@
 //! Automata over bytes: which of several ends a text leads to.
 //!
-//! A [`Builder`] makes an [`Nfa`] from states. A state reads a byte and goes on to another state, goes on to others
-//! without a byte, or is an end, which names an index. The calls of an [`Nfa`] read states and do not count them. The crate
-//! `lazy_dfa` runs it, and counts what it reads.
+//! A [`Builder`] makes an [`Nfa`] from states. A state reads a byte and goes on to another state, goes on to others without a
+//! byte, or is an end, which names an index. The calls of an [`Nfa`] read states and do not count them. The crate `lazy_dfa` runs
+//! it, and counts its reads.
 #![tactic(auto)]
 
 mod builder;

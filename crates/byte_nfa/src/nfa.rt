@@ -22,10 +22,10 @@ pub use reading::StateRef;
 use std::alloc::Global;
 use std::marker::Model;
 
-/// A nondeterministic automaton: states over bytes, and those of them that a run begins in.
+/// A nondeterministic automaton: states over bytes, and the starts among them.
 ///
-/// Its calls are for what is made from it, such as a deterministic automaton. They read states, and do not count what
-/// they read. The crate `lazy_dfa`, whose calls count each read of a state, runs it.
+/// Its calls are for code that makes something from it, such as a deterministic automaton. They read states and do not count
+/// their reads. The crate `lazy_dfa` runs it, and counts each read of a state.
 #[derive(Drop)]
 pub struct Nfa {
     states: Vec<State>,
@@ -83,7 +83,7 @@ impl Nfa {
         self.index_count
     }
 
-    /// Returns the states that a run begins in, in the order in which they were added.
+    /// Returns the states in which a run begins, in the order of their additions.
     pub fn starts(&self) -> &[usize]
         ensures starts { result.now ≡ self.now.starts }
         ensures below { AreBelow (size self.now) result.now }
@@ -91,7 +91,7 @@ impl Nfa {
         &self.starts
     }
 
-    /// Puts the states that a run begins in into a set. What the set held has no effect.
+    /// Puts the states in which a run begins into a set, whose old contents have no effect.
     pub fn start(&self, into: &mut StateSet)
         requires { size self.now ≤ state_capacity into.old }
         ensures room { state_capacity into.new ≡ state_capacity into.old }
@@ -102,8 +102,8 @@ impl Nfa {
         into.put_all(&self.starts);
     }
 
-    /// Puts the index of each end that the states of a set lead to without a byte into a set of indexes, beside what it
-    /// holds. What a state of `from` goes on to without a byte is put into `from`. It reads each state at most once.
+    /// Puts the index of each end that the states of a set lead to without a byte into a set of indexes, next to its contents.
+    /// The states that a state of `from` leads to without a byte are put into `from`. It reads each state at most once.
     pub fn ends(&self, from: &mut StateSet, into: &mut IndexSet)
         requires from_capacity { size self.now ≤ state_capacity from.old }
         requires into_capacity { self.now.index_count ≤ index_capacity into.old }
@@ -126,8 +126,8 @@ impl Nfa {
         }
     }
 
-    /// Returns a set that has a byte `b` below 255 if some state reads one of `b` and `b + 1`, and not both. If it has not,
-    /// what follows either byte leads to the same ends.
+    /// Returns a set that has a byte `b` below 255 if some state reads exactly one of `b` and `b + 1`. If the set lacks `b`, both
+    /// bytes lead to the same ends.
     ///
     /// It reads each state.
     pub fn class_boundaries(&self) -> ByteSet
@@ -154,8 +154,8 @@ impl Nfa {
         true
     }
 
-    /// Returns a number that is the same for bytes that are read alike, and mostly another one for others: a bit for each set of
-    /// bytes that has the byte, where one of 64 bits may stand for several sets.
+    /// Returns a number that is the same for bytes that are read alike, and mostly differs for others. It has a bit for each set
+    /// of bytes that has the byte, and each of its 64 bits may stand for several sets.
     pub fn kind_of(&self, byte: u8) -> u64 {
         let mut kind = 0;
         let mut bit = 1u64;

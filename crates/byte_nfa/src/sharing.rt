@@ -54,7 +54,7 @@ struct Sharing {
     known: KnownLists,
     waiting: Vec<Vec<usize>>,
     sets: SetNumbers,
-    /// How much work may still be done.
+    /// The work that may still be done.
     left: usize,
 }
 
@@ -94,8 +94,8 @@ pub fn start_state(
 }
 
 impl Sharing {
-    /// Makes a state for a list, if states were made for the lists that it leads to. Otherwise these wait to be taken first, and
-    /// then this one again. Returns whether there was work left for that, and there are no more states than before.
+    /// Makes a state for a list, if states were made for the lists that it leads to. Otherwise these wait first, and then this
+    /// list again. Returns whether there was work left for that, and the number of states is within bounds.
     fn take(
         &mut self,
         alloc: Global,
@@ -136,8 +136,8 @@ impl Sharing {
         Ok(builder.state_count() <= automaton.state_count())
     }
 
-    /// Returns the states of a list with what a union goes on to in its place, in an order in which those that are alike stand
-    /// together. `None` if that is too much work.
+    /// Returns the states of a list with a union's successors in its place, ordered so that states that are alike are adjacent.
+    /// `None` if that is too much work.
     fn in_order(
         &mut self,
         alloc: Global,
@@ -162,7 +162,7 @@ impl Sharing {
     }
 }
 
-/// Returns the lists of what the chunks of a list go on to that no state was made for. `None` if the list has a union.
+/// Returns the lists that the chunks of a list lead to and that have no state yet. `None` if the list has a union.
 fn missing_lists(
     alloc: Global,
     automaton: &Nfa,
@@ -184,8 +184,8 @@ fn missing_lists(
     Ok(Some(missing))
 }
 
-/// Pushes a state that stands for a list, and a state for each of its chunks. Returns its number, or `None` if the list has a union
-/// or leads to a list that no state was made for.
+/// Pushes a state that stands for a list, and a state for each of its chunks. Returns its number, or `None` if the list has a
+/// union or leads to a list that no state was made for.
 fn push_list(
     alloc: Global,
     automaton: &Nfa,

@@ -12,11 +12,11 @@ ghost use Rattle.byte_nfa.specs.inner.Pass.{goes_now, goes_next, TellsEnd, EndsB
 
 use bit_sets::{ByteSet, StateSet, Visits};
 
-/// A state, in 16 bytes. Its set of bytes is kept as the number of one of the automaton's sets, and several states that it
-/// goes on to as the place in the automaton's list of next states at which their count stands, and then each.
+/// A state, in 16 bytes. Its set of bytes is the number of a set of the automaton. Several next states are a place in the
+/// automaton's list of next states, where their count stands before them.
 ///
-/// States are numbered in the order in which they were pushed, and what a state goes on to was there before it. So numbers
-/// go down along each step.
+/// States are numbered in the order of their pushes, and a state's next states were there before it. So numbers go down along
+/// each step.
 #[derive(Clone, Copy)]
 pub enum State {
     /// Reads a byte of the set and goes on.
@@ -48,8 +48,8 @@ impl State {
         }
     }
 
-    /// Takes the steps of a state at the end of the text: puts into `from` what it goes on to without a byte. Returns its index
-    /// if it is an end.
+    /// Takes the steps of a state at the end of the text: puts the states that it leads to without a byte into `from`. Returns
+    /// its index if it is an end.
     pub fn follow_epsilons(&self, s: usize, targets: &[usize], from: &mut StateSet) -> Option<usize>
         requires below { (sets : List ByteSet) × IsHeld sets targets.now self.now
             × GoesBelow s (of_state sets targets.now self.now) }
@@ -91,7 +91,7 @@ impl State {
         }
     }
 
-    /// Returns whether a state is an end, or goes on to a state of a set without a byte, or by a byte to a lower state of the
+    /// Returns whether a state is an end, leads to a state of a set without a byte, or leads by a byte to a lower state of the
     /// set.
     pub fn is_leading(&self, s: usize, sets: &[ByteSet], targets: &[usize], live: &StateSet) -> bool
         requires held { IsHeld sets.now targets.now self.now }
@@ -108,7 +108,7 @@ impl State {
         }
     }
 
-    /// Returns a set with each byte more by which a state goes on to a state of `accepting`.
+    /// Returns a set together with each byte that leads a state to a state of `accepting`.
     pub fn add_last_bytes(
         &self,
         s: usize,
@@ -133,7 +133,7 @@ impl State {
         }
     }
 
-    /// Returns a set with each byte `b` more for which a state reads or stays on one of `b` and `b + 1`, and not both.
+    /// Returns a set together with each byte `b` where a state reads or stays on exactly one of `b` and `b + 1`.
     pub fn add_boundaries(&self, sets: &[ByteSet], bytes: ByteSet) -> ByteSet
         requires { (targets : List ℕ) × IsHeld sets.now targets self.now }
         ensures { (targets : List ℕ)

@@ -3,12 +3,12 @@
 use crate::fault::Fault;
 use std::process::ExitCode;
 
-/// A command, or the program without one.
+/// A command, or the program without a command.
 #[derive(Clone, Copy)]
 pub struct Command {
-    /// Its name, with which its errors begin.
+    /// Its name, the start of its error messages.
     pub name: &'static str,
-    /// What it prints for `--help`, without the last LF. The first line says how it is called.
+    /// The text of `--help`, without the last LF. The first line is the usage.
     pub help: &'static str,
 }
 
@@ -33,7 +33,7 @@ impl Command {
     }
 }
 
-/// Returns whether an argument asks for help.
+/// Returns whether an argument is a request for help.
 pub fn asks_for_help(argument: &String) -> bool {
     matches!(argument.as_str(), "-h" | "--help")
 }

@@ -8,14 +8,14 @@ use std::{fmt, io};
 pub enum Fault {
     /// The arguments are not as the usage has them.
     Usage,
-    /// The arguments cannot be read, as one that is not UTF-8.
+    /// The arguments cannot be read, for example since an argument is not UTF-8.
     Arguments(io::Error),
     /// A file cannot be opened or read.
     File {
         name: String,
         error: io::Error,
     },
-    /// A line of a file has no meaning: the text of it that is wrong, and what is wrong with it.
+    /// A line of a file has no meaning: the wrong part of its text, and the reason.
     Line {
         file: String,
         number: usize,
@@ -90,7 +90,7 @@ fn write_error<W: fmt::Write>(
     write!(f, "{}: {error}", Shown(name.as_bytes()))
 }
 
-/// Writes the place of a line, the text of it that is wrong, and what is wrong with it.
+/// Writes the place of a line, the wrong part of its text, and the reason.
 fn write_line_error<W: fmt::Write>(
     f: &mut fmt::Formatter<W>,
     file: &str,

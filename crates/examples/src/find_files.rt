@@ -41,7 +41,7 @@ The exit status is 0 if a path was printed, 1 if none was, and 2 after an error.
 
 const VERSION: &str = "find_files 0.4.21";
 
-/// Does what the arguments ask for, and returns the exit status. With `--help` that is the help, whatever else there is.
+/// Executes the arguments, and returns the exit status. With `--help` it prints the help and does nothing else.
 pub fn run(rt: &HostRuntime, arguments: &[String]) -> Result<ExitCode, Fault> {
     let arguments = Arguments::read(rt.alloc(), arguments)?;
     if arguments.flags.help {

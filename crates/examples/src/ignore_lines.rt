@@ -3,8 +3,8 @@
 //! The argument names the ignore file. Each line of standard input is the path of a file, from the folder that the ignore file
 //! is for, as `git ls-files` prints it.
 //!
-//! With `-v` it prints for each path which line of which file decides about it, as `git check-ignore -v -n` does. There may then
-//! be several ignore files, each for the folder in which it is.
+//! With `-v` it prints for each path the file and the line that decide about it, as `git check-ignore -v -n` does. There may then
+//! be several ignore files, each for its own folder.
 
 mod arguments;
 mod deciding;
@@ -36,7 +36,7 @@ and a tab. With -z, NUL ends each path, FILE, LINE and TEXT, in the input and th
 The exit status is 0, or 2 after an error, whose text is written to standard error.",
 };
 
-/// Does what the arguments ask for, and returns the exit status.
+/// Executes the arguments, and returns the exit status.
 pub fn run(rt: &HostRuntime, arguments: &[String]) -> Result<ExitCode, Fault> {
     match arguments {
         [option, named @ ..] if option.as_str() == "-v" => print_deciding(rt, Named::new(named)?),

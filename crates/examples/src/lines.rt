@@ -5,8 +5,8 @@ ghost use Rattle.std.specs.Iterator.{at_most};
 
 use memchr::memchr;
 
-/// An iterator over lines without what ends them, which is one byte, mostly LF. A rest after the last such byte is a line too,
-/// unless it is empty.
+/// An iterator over lines without the byte that ends them, mostly LF. A rest after the last such byte is a line too, unless it is
+/// empty.
 #[derive(Drop)]
 pub struct Lines<'a> {
     rest: &'a [u8],

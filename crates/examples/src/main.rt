@@ -1,4 +1,4 @@
-//! `examples` is one program of several examples, each a command: what a program over the libraries looks like.
+//! `examples` is a program of several examples, each a command: programs over the libraries look like this.
 //!
 //! - `file_types` prints the types of paths, by a table of globs.
 //! - `owners` prints the owners of paths, by an owners file.
@@ -8,7 +8,7 @@
 //! The first argument names the command, and the module of that name does it with the others. The text of an error goes to
 //! standard error, and begins with the name of the command.
 //!
-//! The runtime has its own type everywhere, since a type parameter for it doubles what is to be proved of the walk.
+//! The runtime has its own type everywhere, since a type parameter for it doubles the proofs of the walk.
 #![tactic(auto)]
 
 mod command;
@@ -48,7 +48,7 @@ fn main(rt: HostRuntime) -> ExitCode {
     }
 }
 
-/// Returns the arguments without the program's name. Returns an error if one is not UTF-8, or memory runs out.
+/// Returns the arguments without the program's name. Fails if an argument is not UTF-8.
 fn read_arguments(rt: &HostRuntime) -> Result<Vec<String>, Fault> {
     let given = match env::args(rt) {
         Ok(given) => given,
@@ -61,7 +61,7 @@ fn read_arguments(rt: &HostRuntime) -> Result<Vec<String>, Fault> {
     Ok(arguments)
 }
 
-/// Does what the arguments ask for, and returns the exit status.
+/// Executes the arguments, and returns the exit status.
 fn run(rt: &HostRuntime, arguments: &[String]) -> ExitCode {
     let Some((name, rest)) = arguments.split_first() else {
         return PROGRAM.end(rt, Err(Fault::Usage));

@@ -1,4 +1,4 @@
-//! What a command writes.
+//! The output of a command.
 
 use crate::fault::Fault;
 use std::alloc::{AllocError, Global};
@@ -25,13 +25,13 @@ impl Output {
         }
     }
 
-    /// Adds a line of these parts, and LF. Returns an error if memory runs out.
+    /// Adds a line of these parts, and LF.
     pub fn push_line(&mut self, parts: &[&[u8]]) -> Result<(), AllocError> {
         self.push(parts)?;
         self.push(&[b"\n"])
     }
 
-    /// Adds these parts. Returns an error if memory runs out.
+    /// Adds these parts.
     pub fn push(&mut self, parts: &[&[u8]]) -> Result<(), AllocError> {
         for part in parts {
             self.bytes.extend_from_slice(part)?;

@@ -4,7 +4,7 @@ use crate::fault::Fault;
 use crate::lines::Lines;
 use std::io::Read;
 
-/// The bytes of standard input, of which each line is a path.
+/// The bytes of standard input: each line is a path.
 pub struct Paths {
     bytes: Vec<u8>,
 }
@@ -17,7 +17,7 @@ impl Drop for Paths {
 }
 
 impl Paths {
-    /// Reads standard input to its end. Returns an error if it cannot be read, or memory runs out.
+    /// Reads standard input to its end. Fails if it cannot be read.
     pub fn read(rt: &HostRuntime) -> Result<Paths, Fault> {
         let mut bytes = Vec::new(rt.alloc());
         match rt.reader().read_to_end(&mut bytes) {
@@ -26,7 +26,7 @@ impl Paths {
         }
     }
 
-    /// Returns the paths, each of which this byte ends. A rest after the last such byte is a path too, unless it is empty.
+    /// Returns the paths, which end in this byte. A rest after the last such byte is a path too, unless it is empty.
     pub fn ended_by(&self, end: u8) -> Lines<'_> {
         Lines::new(self.bytes.as_slice(), end)
     }

@@ -23,7 +23,7 @@ impl Drop for TextFile {
 }
 
 impl TextFile {
-    /// Reads a file. Returns an error if it cannot be read, or memory runs out.
+    /// Reads a file. Fails if it cannot be read.
     pub fn read(rt: &HostRuntime, name: &str) -> Result<TextFile, Fault> {
         match fs::read(rt, name) {
             Ok(bytes) => Ok(TextFile {
@@ -51,7 +51,7 @@ impl TextFile {
     }
 
     /// Returns the lines without LF or CRLF, and without a byte order mark at the start of the file. A rest after the last LF is
-    /// a line too, unless it is empty. Returns the error of the first line that is not UTF-8, or an error if memory runs out.
+    /// a line too, unless it is empty. Fails with the first line that is not UTF-8.
     pub fn lines(&self, alloc: Global) -> Result<Vec<&str>, Fault> {
         let mut lines = Vec::new(alloc);
         for line in Lines::new(self.text(), b'\n') {
@@ -63,8 +63,8 @@ impl TextFile {
         Ok(lines)
     }
 
-    /// Returns the error of a line: its number, counted from 1, the text that is wrong, and what is wrong with it. If there is
-    /// no memory for that, returns the error that memory ran out.
+    /// Returns the error of a line: its number, counted from 1, the wrong part of its text, and the reason. If there is no memory
+    /// for that, returns the error that memory ran out.
     pub fn fault(
         &self,
         alloc: Global,

@@ -1,5 +1,5 @@
--- The rules of an ignore file, and what they say of a path below the folder of the file. A line that no glob can stand for has none, which is
--- a difference from git.
+-- The rules of an ignore file, and their decision about a path below the file's folder. A line that no glob can express has no
+-- rule, which is a difference from git.
 use Rattle.std.specs.Prelude.{ℕ, suc, Bool, not, ◌&&◌, ◌||◌, List, [], ◌∷◌, Option, Some, None, if◌then◌else◌}
 use Rattle.ignore_pattern.specs.Lines.{file_lines}
 use Rattle.ignore_pattern.specs.Patterns.{Pattern, read_pattern, pattern_matches}
@@ -11,7 +11,7 @@ pub record Rule : Type 0 where
   pub line : ℕ
   pub pattern : Pattern
 
--- the rules of these lines, the first of which has this number
+-- the rules of these lines, from this number on
 abbrev pub rules_from : ℕ → List (List ℕ) → List Rule
 rules_from n [] = []
 rules_from n (line ∷ lines) = elim (read_pattern line) [ None ↦ rules_from (suc n) lines | Some p ↦ record { line = n; pattern = p } ∷ rules_from (suc n) lines ]
@@ -20,7 +20,8 @@ rules_from n (line ∷ lines) = elim (read_pattern line) [ None ↦ rules_from (
 unfoldable pub rules_of : List ℕ → List Rule
 rules_of file = rules_from 1 (file_lines file)
 
--- The rule applies to the path, of a folder or of something else: it matches it, and is not for folders alone or the path is one.
+-- The rule applies to the path, of a folder or of something else: it matches the path, which has to be a folder if the rule is
+-- for folders alone.
 abbrev pub applies : List ℕ → Bool → Rule → Bool
 applies path is_folder rule = (is_folder || not rule.pattern.folders_only) && pattern_matches rule.pattern path
 
@@ -29,12 +30,12 @@ abbrev pub last_rule : List ℕ → Bool → List Rule → Option Rule
 last_rule path is_folder [] = None
 last_rule path is_folder (rule ∷ rules) = elim (last_rule path is_folder rules) [ Some last ↦ Some last | None ↦ if applies path is_folder rule then Some rule else None ]
 
--- what a rule says of a path to which it is the last one that applies
+-- the decision of the last rule that applies
 abbrev pub said : Option Rule → Decision
 said None = Undecided
 said (Some rule) = if rule.pattern.negated then Kept else Ignored
 
--- The decision of an ignore file: that of the last rule that applies.
+-- The decision of an ignore file: the decision of the last rule that applies.
 unfoldable pub decision : List ℕ → List ℕ → Bool → Decision
 decision file path is_folder = said (last_rule path is_folder (rules_of file))
 
@@ -43,6 +44,6 @@ abbrev pub line_of : Option Rule → Option ℕ
 line_of None = None
 line_of (Some rule) = Some rule.line
 
--- The number of the line that decides: that of the last rule that applies.
+-- The number of the line that decides: the line of the last rule that applies.
 unfoldable pub deciding_line : List ℕ → List ℕ → Bool → Option ℕ
 deciding_line file path is_folder = line_of (last_rule path is_folder (rules_of file))

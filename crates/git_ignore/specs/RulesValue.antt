@@ -7,6 +7,6 @@ pub record RulesValue : Type 0 where
   pub file : List ℕ
   pub set : SetValue
 
--- The scratch fits the rules, as one of a set fits the set.
+-- The scratch fits the rules, as a set's scratch fits the set.
 abbrev pub FitsRules : ScratchValue → RulesValue → Type 0
 FitsRules scratch rules = Fits scratch rules.set

@@ -2,22 +2,22 @@
 use Rattle.std.specs.Prelude.{ℕ, List, [], ◌∷◌, ◌++◌, map}
 use Rattle.git_ignore.specs.Folders.{IgnoreFile}
 
--- a folder of a walk: its path, which is empty or ends with `/`, and its ignore files, in the order in which they were added
+-- a folder of a walk: its path, which is empty or ends with `/`, and its ignore files, in the order of their additions
 pub record OpenFolder : Type 0 where
   pub path : List ℕ
   pub files : List (List ℕ)
 
--- A walk is seen as the folder that it is in, and the folders above it, the one right above it first.
+-- A walk is seen as its current folder and the folders above it, from the nearest up.
 pub record StackValue : Type 0 where
   pub here : OpenFolder
   pub above : List OpenFolder
 
--- the ignore files of folders, those of the last folder first
+-- the ignore files of folders, the last folder's first
 abbrev pub files_in : List OpenFolder → List IgnoreFile
 files_in [] = []
 files_in (f ∷ fs) = files_in fs ++ map (λ bytes. record { folder = f.path; bytes = bytes }) f.files
 
--- the ignore files of the folder that the walk is in and of those above it, the top one first
+-- the ignore files of the current folder and of the folders above it, from the top down
 abbrev pub stack_files : StackValue → List IgnoreFile
 stack_files s = files_in (s.here ∷ s.above)
 
@@ -25,7 +25,7 @@ stack_files s = files_in (s.here ∷ s.above)
 abbrev pub at_top : StackValue
 at_top = record { here = record { path = []; files = [] }; above = [] }
 
--- with one more ignore file, which is in the folder that the walk is in
+-- with another ignore file, which is in the current folder
 abbrev pub with_file : StackValue → List ℕ → StackValue
 with_file s bytes = record { here = record { path = s.here.path; files = s.here.files ++ bytes ∷ [] }; above = s.above }
 

@@ -16,7 +16,7 @@ pub enum Decision {
 }
 
 impl Decision {
-    /// Returns whether the path is ignored. One that no rule applies to is not.
+    /// Returns whether the path is ignored. A path without a rule is not.
     pub fn is_ignored(self) -> bool
         ensures { result ≡ ignores self }
     {

@@ -22,7 +22,7 @@ impl RuleEntry {
         is_folder || !self.is_folders_only
     }
 
-    /// Returns the decision about a path for which this is the last rule that applies.
+    /// Returns the decision about a path whose last applicable rule this is.
     pub fn decision(self) -> Decision
         ensures { result ≡ decision_of (Some self) }
     {
@@ -34,7 +34,7 @@ impl RuleEntry {
     }
 }
 
-/// Returns the decision of the last entry that applies to a path, if there is one.
+/// Returns the decision of the last entry that applies to a path, if there is any.
 pub fn decision_by(last: Option<RuleEntry>) -> Decision
     ensures { result ≡ decision_of last }
 {
@@ -44,7 +44,7 @@ pub fn decision_by(last: Option<RuleEntry>) -> Decision
     }
 }
 
-/// Returns the number of the line of an entry, if there is one.
+/// Returns the number of the line of an entry, if there is any.
 pub fn line_by(last: Option<RuleEntry>) -> Option<usize>
     ensures { result ≡ line_of_entry last }
 {

@@ -1,4 +1,4 @@
-//! The rules of one ignore file among several.
+//! The rules of an ignore file among several.
 
 ghost use Rattle.std.specs.Prelude.{◌≡◌, ◌<◌, ◌≤◌, ◌==◌, ◌&&◌, true, false, IfOk, IsOkUnless, length, take, slice_index};
 ghost use Rattle.globset.specs.Errors.{out_of_memory};
@@ -22,7 +22,7 @@ pub struct FolderRules {
 }
 
 impl FolderRules {
-    /// Reads an ignore file of a folder, and makes the scratch fit its rules. Returns an error only if memory runs out.
+    /// Reads an ignore file of a folder, and makes the scratch fit its rules.
     pub fn new(
         alloc: Global,
         folder: &[u8],
@@ -41,7 +41,7 @@ impl FolderRules {
         Ok(FolderRules { folder, rules })
     }
 
-    /// Returns what the file says of a path, which begins in the top folder.
+    /// Returns the file's decision about a path, which begins in the top folder.
     fn decide(&self, path: &[u8], is_folder: bool, scratch: &mut IgnoreScratch) -> Decision
         requires { FitsRules scratch.old self.now.rules }
         ensures decision { result ≡ file_decision path.now is_folder (file_of self.now) }
@@ -54,7 +54,7 @@ impl FolderRules {
     }
 }
 
-/// Returns what files say of a path, which begins in the top folder; a later file goes before an earlier one.
+/// Returns the files' decision about a path, which begins in the top folder; later files take precedence.
 fn decide_alone(
     files: &[FolderRules],
     path: &[u8],
@@ -97,8 +97,8 @@ pub fn decide_below(
     decide_alone(files, path, is_folder, scratch)
 }
 
-/// Returns whether files ignore a folder above a path, which begins in the top folder. None of the folders that end before `start` is
-/// ignored.
+/// Returns whether files ignore a folder above a path, which begins in the top folder. None of the folders that end before
+/// `start` is ignored.
 fn ignores_above(
     files: &[FolderRules],
     path: &[u8],

@@ -1,7 +1,7 @@
 //! Ignore files, read as git reads them, except for lines that no glob can stand for. Those have no rule, and
 //! [`Rules::unread_lines`] returns their numbers.
 //!
-//! [`Rules`] are the rules of one file, which decide about paths below its folder:
+//! [`Rules`] are the rules of a file, which decide about paths below its folder:
 //!
 //! ```rust
 //! use git_ignore::{Decision, Rules};
@@ -24,7 +24,7 @@
 //! assert_eq!(rt; decisions[3], Decision::Ignored);
 //! ```
 //!
-//! A [`RulesSearcher`] has rules and all the memory that one thread needs, for many paths. Its calls cannot fail:
+//! A [`RulesSearcher`] has rules and all the memory of a thread, for many paths. Its calls cannot fail:
 //!
 //! ```rust
 //! use git_ignore::{Decision, Rules, RulesSearcher};

@@ -14,7 +14,7 @@ use ignore_pattern::{IgnorePattern, pattern_of_line};
 use memchr::memchr;
 use std::alloc::Global;
 
-/// What some editors put at the start of a text.
+/// The bytes that some editors put at the start of a text.
 const BYTE_ORDER_MARK: &[u8] = b"\xef\xbb\xbf";
 
 /// The rules that were read so far: their globs, and an entry for each.
@@ -38,7 +38,7 @@ impl RulesBuilder {
         }
     }
 
-    /// Adds the rules of some lines, the first of which has the number 1. Returns an error only if memory runs out.
+    /// Adds the rules of some lines. The first line has the number 1.
     pub fn push_lines(&mut self, alloc: Global, bytes: &[u8]) -> Result<(), Error>
         requires { AreEntriesOf [] self.old.globs.items self.old.entries.items }
         ensures rules { OnOk result
@@ -56,7 +56,7 @@ impl RulesBuilder {
         self.push_line(alloc, number, rest)
     }
 
-    /// Adds the rule of a line, if it has one. Returns an error only if memory runs out.
+    /// Adds the rule of a line, if there is any.
     fn push_line(&mut self, alloc: Global, number: usize, line: &[u8]) -> Result<(), Error>
         ensures rule { OnOk result
             (AddsRules (rule_at number (read_pattern line.now)) self.old.globs.items
@@ -69,7 +69,7 @@ impl RulesBuilder {
         }
     }
 
-    /// Adds a rule. Returns an error only if memory runs out.
+    /// Adds a rule.
     fn push_rule(&mut self, line: usize, pattern: IgnorePattern) -> Result<(), Error>
         ensures glob { OnOk result
             (self.new.globs.items ≡ self.old.globs.items ++ pattern.glob ∷ []) }
@@ -109,8 +109,7 @@ impl RulesBuilder {
         (globs, entries, unread)
     }
 
-    /// Keeps the number of a line that matches nothing, unless it is blank or a comment. Returns an error if memory runs out, and no
-    /// other.
+    /// Keeps the number of a line that matches nothing, unless it is blank or a comment.
     fn push_unread(&mut self, number: usize, line: &[u8]) -> Result<(), Error>
         ensures globs { self.new.globs.items ≡ self.old.globs.items }
         ensures entries { self.new.entries.items ≡ self.old.entries.items }
@@ -123,7 +122,7 @@ impl RulesBuilder {
     }
 }
 
-/// Returns the set of globs. Returns an error only if memory runs out.
+/// Returns the set of globs.
 pub fn set_of(alloc: Global, globs: Vec<Glob>) -> Result<GlobSet, Error>
     ensures globs { IfOk result (λ set. set_globs set ≡ globs.items) }
     ensures err { IsOkUnless result out_of_memory }

@@ -23,6 +23,10 @@ use std::sync::Arc;
 /// To decide about many paths, make a [`crate::RulesSearcher`] of them.
 ///
 /// Contracts see the bytes of the file, and the set of the globs of its rules.
+///
+/// # Errors
+///
+/// Calls that return a [`Result`] fail only if memory runs out.
 #[derive(Drop)]
 pub struct Rules {
     /// Searchers share it.
@@ -40,11 +44,9 @@ impl Model for Rules {
 }
 
 impl Rules {
-    /// Reads an ignore file, given by its bytes. Each line has at most one rule. Lines that git cannot read have none, and lines
+    /// Reads an ignore file, given by its bytes. Each line has a rule or none. Lines that git cannot read have none, and lines
     /// that no glob can express, such as lines that are not UTF-8. That is no error: [`Rules::unread_lines`] returns their
     /// numbers.
-    ///
-    /// Returns an error only if memory runs out.
     pub fn new(alloc: Global, file: &[u8]) -> Result<Rules, Error>
         ensures file { IfOk result (λ r. r.file ≡ file.now) }
         ensures err { IsOkUnless result out_of_memory }
@@ -59,7 +61,7 @@ impl Rules {
     /// Returns the decision of the file about a path below its folder: the last rule that applies decides.
     ///
     /// The path begins in the folder of the file. Everything below an ignored folder is ignored, too: see [`crate::IgnoreStack`].
-    /// The scratch has to fit the rules. It then fits what it fitted before.
+    /// The scratch has to fit the rules, and fits the same rules afterwards.
     pub fn decide(&self, path: &[u8], is_folder: bool, scratch: &mut IgnoreScratch) -> Decision
         requires { FitsRules scratch.old self.now }
         ensures decision { result ≡ decision self.now.file path.now is_folder }
@@ -68,7 +70,7 @@ impl Rules {
         decision_by(self.last_entry(path, is_folder, scratch))
     }
 
-    /// Returns the number of the line, counted from 1, that has the last rule that applies to a path; `None` if no rule does.
+    /// Returns the number of the line with the last rule that applies to a path, counted from 1, or `None` if no rule does.
     pub fn deciding_line(
         &self,
         path: &[u8],
@@ -82,7 +84,7 @@ impl Rules {
         line_by(self.last_entry(path, is_folder, scratch))
     }
 
-    /// Like [`Rules::decide`], with a scratch of its own. Returns an error only if memory runs out.
+    /// Like [`Rules::decide`], with a scratch of its own.
     pub fn decide_once(&self, path: &[u8], is_folder: bool) -> Result<Decision, Error>
         ensures decision { IfOk result (λ d. d ≡ decision self.now.file path.now is_folder) }
         ensures err { IsOkUnless result out_of_memory }
@@ -91,7 +93,7 @@ impl Rules {
         Ok(self.decide(path, is_folder, &mut scratch))
     }
 
-    /// Like [`Rules::deciding_line`], with a scratch of its own. Returns an error only if memory runs out.
+    /// Like [`Rules::deciding_line`], with a scratch of its own.
     pub fn deciding_line_once(&self, path: &[u8], is_folder: bool) -> Result<Option<usize>, Error>
         ensures line { IfOk result (λ n. n ≡ deciding_line self.now.file path.now is_folder) }
         ensures err { IsOkUnless result out_of_memory }
@@ -100,15 +102,14 @@ impl Rules {
         Ok(self.deciding_line(path, is_folder, &mut scratch))
     }
 
-    /// Decides about each folder above a path, as [`Rules::decide`] does, from the highest one down.
+    /// Decides about each folder above a path, as [`Rules::decide`] does, from the highest folder down.
     ///
-    /// The decision about a folder is put at the index of the `/` after it in the path, unless there is one already: an item that
-    /// is not [`Decision::Undecided`] stays as it is. So calls for several files, deeper folders first, find the decisions of all
-    /// the files. The path below the folder of the file begins at `start`. Folders that end before are left out, and folders for
-    /// which `decisions` is too short. All other items stay as they are.
+    /// The decision about a folder is put at the index of the `/` after it in the path, unless a decision is there already: an
+    /// item that is not [`Decision::Undecided`] stays as it is. So calls for several files, deeper folders first, find the
+    /// decisions of all the files. The path below the folder of the file begins at `start`. Folders that end before are left out,
+    /// and folders beyond the end of `decisions`. All other items stay as they are.
     ///
-    /// Each folder takes a pass over its whole path, with a scratch of the call's own. Returns an error only if memory runs out;
-    /// nothing is put then.
+    /// Each folder takes a pass over its whole path, with a scratch of the call's own. After an error no decision is put.
     pub fn decide_folders(
         &self,
         path: &[u8],
@@ -167,7 +168,7 @@ impl Rules {
         self.stored.set()
     }
 
-    /// Returns what searchers share with the rules. Returns an error only if 2^63 values share it.
+    /// Returns what searchers share with the rules. Fails only if 2^63 values share it.
     pub(crate) fn share(&self) -> Result<Arc<StoredRules>, AllocError>
         ensures { IfOk result (λ stored. arc_value stored ≡ self.now) }
     {

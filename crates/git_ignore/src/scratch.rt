@@ -14,6 +14,10 @@ use std::marker::Model;
 ///
 /// With a scratch that fits the rules, [`Rules::decide`] cannot fail. What earlier calls left in it has no effect. It serves all
 /// rules that it fits ([`IgnoreScratch::fits`]), and [`IgnoreScratch::fit`] makes it fit more rules.
+///
+/// # Errors
+///
+/// Calls that return a [`Result`] fail only if memory runs out.
 #[derive(Drop)]
 pub struct IgnoreScratch {
     pub(crate) scratch: Scratch,
@@ -33,7 +37,7 @@ impl Model for IgnoreScratch {
 }
 
 impl IgnoreScratch {
-    /// Returns a scratch that fits the rules. Returns an error only if memory runs out.
+    /// Returns a scratch that fits the rules.
     pub fn new(alloc: Global, rules: &Rules) -> Result<IgnoreScratch, Error>
         ensures fits { IfOk result (λ s. FitsRules s rules.now) }
         ensures err { IsOkUnless result out_of_memory }
@@ -72,7 +76,7 @@ impl IgnoreScratch {
 
     /// Makes the scratch fit more rules. It does not allocate if it fits them already.
     ///
-    /// Returns an error only if memory runs out; the scratch then fits what it fitted before.
+    /// Fails only if memory runs out. The scratch then fits the same rules as before.
     pub fn fit(&mut self, rules: &Rules) -> Result<(), Error>
         ensures fits { OnOk result (FitsRules self.new rules.now) }
         ensures others { FitsAsBefore self.old self.new }

@@ -15,11 +15,11 @@ use std::alloc::Global;
 use std::marker::Model;
 use std::sync::Arc;
 
-/// [`Rules`] with all the memory that one thread needs to decide about paths. [`RulesSearcher::new`] allocates it: no other call
+/// [`Rules`] with all the memory that a thread needs to decide about paths. [`RulesSearcher::new`] allocates it: no other call
 /// allocates, and none can fail.
 ///
 /// Searchers of the same rules share their globs and entries, and outlive the rules. A program with several threads makes a
-/// searcher for each thread. A [`Searcher`] in it keeps rows of automata from one path to the next.
+/// searcher for each thread. A [`Searcher`] in it keeps rows of automata from path to path.
 ///
 /// Contracts see a searcher as they see its rules. Nothing that earlier calls left in it has an effect.
 ///
@@ -58,7 +58,7 @@ impl RulesSearcher {
     /// Returns a searcher of the rules, which shares their globs and entries. It takes as much memory as a [`Searcher`] of their
     /// globs.
     ///
-    /// Returns an error only if memory runs out or 2^63 searchers share the rules.
+    /// Fails only if memory runs out or 2^63 searchers share the rules.
     pub fn new(alloc: Global, rules: &Rules) -> Result<RulesSearcher, Error>
         ensures rules { IfOk result (λ s. s ≡ rules.now) }
         ensures err { IsOkUnless result out_of_memory }

@@ -12,12 +12,12 @@ use globset::{Error, GlobSet};
 use std::alloc::{AllocError, Global};
 use std::marker::Model;
 
-/// A folder above the one that a walk is in.
+/// A folder above the current folder of a walk.
 #[derive(Clone, Copy)]
 pub struct FolderLevel {
-    /// How long its path is.
+    /// The length of its path.
     folder: usize,
-    /// How many files there are in it and above it.
+    /// The number of files in it and above it.
     files: usize,
     /// Whether it is ignored, or a folder above it is.
     is_ignored: bool,
@@ -27,13 +27,17 @@ pub struct FolderLevel {
 ///
 /// A walk begins in its top folder. [`IgnoreStack::enter`] goes down into a folder, [`IgnoreStack::leave`] goes up, and
 /// [`IgnoreStack::add_file`] reads an ignore file of the folder that the walk is in. Files of deeper folders take precedence, and
-/// of the files of one folder the file that was added last. Everything below an ignored folder is ignored; no rule keeps it.
+/// in a folder the file that was added last. Everything below an ignored folder is ignored; no rule keeps it.
 ///
-/// [`IgnoreStack::enter`] stores whether the folder is ignored. So the name of an entry costs one pass over its path for each
-/// ignore file above it. A path through folders that were not entered also costs such passes over the path of each of these
-/// folders, down to the first that is ignored, so the time grows with the square of their number.
+/// [`IgnoreStack::enter`] stores whether the folder is ignored. So the name of an entry costs a pass over its path for each
+/// ignore file above it. A path through folders that were not entered also costs such passes for each of these folders, down to
+/// the first that is ignored. The time grows with the square of their number.
 ///
-/// All files share one [`IgnoreScratch`]. The rules of each keep rows between calls, as a [`GlobSet`] does.
+/// All files share an [`IgnoreScratch`]. The rules of each keep rows between calls, as a [`GlobSet`] does.
+///
+/// # Errors
+///
+/// Calls that return a [`Result`] fail only if memory runs out.
 #[derive(Drop)]
 pub struct IgnoreStack {
     alloc: Global,
@@ -41,9 +45,9 @@ pub struct IgnoreStack {
     folder: Vec<u8>,
     /// Whether the folder is ignored, or a folder above it is.
     is_ignored: bool,
-    /// The files, the top one first.
+    /// The files, from the top down.
     files: Vec<FolderRules>,
-    /// The folders above, the top one first.
+    /// The folders above, from the top down.
     levels: Vec<FolderLevel>,
     scratch: IgnoreScratch,
 }
@@ -61,7 +65,7 @@ impl Model for IgnoreStack {
 }
 
 impl IgnoreStack {
-    /// Returns a walk in its top folder, which has no ignore files yet. Returns an error only if memory runs out.
+    /// Returns a walk in its top folder, which has no ignore files yet.
     pub fn new(alloc: Global) -> Result<IgnoreStack, Error>
         ensures top { IfOk result (λ s. s ≡ at_top) }
         ensures err { IsOkUnless result out_of_memory }
@@ -77,7 +81,8 @@ impl IgnoreStack {
         })
     }
 
-    /// Returns the path of the folder that the walk is in, from the top folder on: empty for this, and otherwise with `/` at its end.
+    /// Returns the path of the folder that the walk is in, from the top folder on: empty for this, and otherwise with `/` at its
+    /// end.
     pub fn folder(&self) -> &[u8]
         ensures { result.now ≡ self.now.here.path }
     {
@@ -94,7 +99,7 @@ impl IgnoreStack {
     /// Reads an ignore file of the folder that the walk is in, given by its bytes. It takes precedence over the files that are
     /// there already.
     ///
-    /// Returns an error only if memory runs out; nothing changed then.
+    /// After an error nothing has changed.
     pub fn add_file(&mut self, file: &[u8]) -> Result<(), Error>
         ensures added { OnOk result (self.new ≡ with_file self.old file.now) }
         ensures kept { OnErr result (self.new ≡ self.old) }
@@ -107,7 +112,7 @@ impl IgnoreStack {
 
     /// Goes down into a folder of this name. If it is ignored, its ignore files need not be added.
     ///
-    /// Returns an error only if memory runs out; nothing changed then.
+    /// After an error nothing has changed.
     pub fn enter(&mut self, name: &[u8]) -> Result<(), Error>
         ensures entered { OnOk result (self.new ≡ entered self.old name.now) }
         ensures kept { OnErr result (self.new ≡ self.old) }
@@ -118,7 +123,8 @@ impl IgnoreStack {
         Ok(())
     }
 
-    /// Goes up to the folder above, without the ignore files that were added since it was left. In the top folder it does nothing.
+    /// Goes up to the folder above, without the ignore files that were added since it was left. In the top folder it does
+    /// nothing.
     pub fn leave(&mut self)
         ensures { self.new ≡ left self.old }
     {
@@ -129,11 +135,11 @@ impl IgnoreStack {
         }
     }
 
-    /// Returns the decision of the ignore files about a path below the folder that the walk is in, such as the name of an entry.
+    /// Returns the decision of the ignore files about a path below the current folder, such as the name of an entry.
     ///
     /// The folders that the path names above its last component count, too: below an ignored folder, the path is ignored.
     ///
-    /// Returns an error only if memory runs out: the call allocates to put the folder's path in front of this path.
+    /// The call allocates to put the folder's path in front of this path.
     pub fn decide(&mut self, path: &[u8], is_folder: bool) -> Result<Decision, Error>
         ensures decision { IfOk result
             (λ d. d ≡ decision_below (stack_files self.old) (self.old.here.path ++ path.now)
@@ -157,7 +163,7 @@ impl IgnoreStack {
         Ok(decision)
     }
 
-    /// Goes down into a folder of this name, which is ignored or not. Returns an error if memory runs out; nothing changed then.
+    /// Goes down into a folder of this name, which is ignored or not. After an error nothing has changed.
     fn push_level(&mut self, name: &[u8], is_ignored: bool) -> Result<(), AllocError>
         requires { is_ignored
             ≡ ignores (decision_below (stack_files self.old) (self.old.here.path ++ name.now)
@@ -184,7 +190,7 @@ impl IgnoreStack {
     }
 }
 
-/// Adds the name of a folder to a path, and `/`. Returns an error if memory runs out; the path is then what it was.
+/// Adds the name of a folder to a path, and `/`. After an error the path is unchanged.
 fn push_name(path: &mut Vec<u8>, name: &[u8]) -> Result<(), AllocError>
     ensures added { OnOk result (path.new.items ≡ path.old.items ++ name.now ++ 47 ∷ []) }
     ensures kept { OnErr result (path.new.items ≡ path.old.items) }

@@ -40,8 +40,7 @@ impl Model for StoredRules {
 }
 
 impl StoredRules {
-    /// Returns what is stored of rules with these globs and entries, which were read from a file. Returns an error only if memory
-    /// runs out.
+    /// Returns the stored form of rules with these globs and entries, which were read from a file.
     pub fn new(
         alloc: Global,
         globs: Vec<Glob>,

@@ -6,7 +6,7 @@ use std::alloc::Global;
 
 const FILE: &[u8] = b"*.o\nout/\n!keep.o\n/top\n**/k/**/m/\n\n# no rule\ndoc/*.txt\n";
 
-/// Each path of a file, or of a folder, with what git says of it, and the line that `git check-ignore -v -n` prints.
+/// Each path of a file, or of a folder, with git's decision about it, and the line that `git check-ignore -v -n` prints.
 const SAID: [(&[u8], bool, Decision, Option<usize>); 10] = [
     (b"a.o", false, Decision::Ignored, Some(1)),
     (b"src/keep.o", false, Decision::Kept, Some(3)),
@@ -20,7 +20,7 @@ const SAID: [(&[u8], bool, Decision, Option<usize>); 10] = [
     (b"k/m", true, Decision::Ignored, Some(5)),
 ];
 
-/// Returns the first row that a searcher does not say, if it is asked about each path twice.
+/// Returns the first row that a searcher gets wrong, if it decides about each path twice.
 fn wrong_row(searcher: &mut RulesSearcher) -> Option<usize> {
     for (row, (path, is_folder, decision, line)) in SAID.iter().enumerate() {
         for _ in 0..2 {

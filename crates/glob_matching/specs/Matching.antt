@@ -5,7 +5,7 @@ use Rattle.bit_sets.specs.declared.index_set.IndexSet.{IndexSet}
 use Rattle.byte_nfa.specs.Steps.{NfaValue}
 use Rattle.glob_strategy.specs.IndexedTokens.{IndexedTokens, IsFor, SomeMatches}
 
--- the set has afterwards the indexes of the tokens that match the text, beside what it had before
+-- the set has afterwards the indexes of the tokens that match the text, in addition to its old indexes
 abbrev pub AddsMatches : NfaValue → List ℕ → IndexSet → IndexSet → Type 0
 AddsMatches m text before after =
     (xs : List IndexedTokens) → IsFor m xs → (k : ℕ) → IsTrue (has_index after k) ↔ (SomeMatches xs text k ⊎ IsTrue (has_index before k))

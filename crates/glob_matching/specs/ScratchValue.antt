@@ -8,20 +8,20 @@ pub record ScratchValue : Type 0 where
   pub states : ℕ
   pub indexes : ℕ
 
--- the scratch has room for automata of so many states and for so many globs: neither of its numbers is below that
+-- the scratch has room for automata of this number of states and for this number of globs: neither of its numbers is lower
 pub record HasCapacity (scratch : ScratchValue) (states indexes : ℕ) : Type 0 where
   pub for_states : states ≤ scratch.states
   pub for_indexes : indexes ≤ scratch.indexes
 
--- The scratch fits a matcher of the glob: its number of states is not below the most that the matcher's automaton may have,
--- which are 4 for each byte of the glob's text, or 16 under `whole_character`, and 4. Indexes are not needed.
+-- The scratch fits a matcher of the glob: its number of states is not below the largest possible number of the matcher's
+-- automaton. That is 4 for each byte of the glob's text, or 16 under `whole_character`, and 4. Indexes are not needed.
 abbrev pub FitsMatcher : ScratchValue → GlobValue → Type 0
 FitsMatcher scratch g = HasCapacity scratch (cost g) 0
 
--- the scratch with each of its numbers raised to this one, if it is below that
+-- the scratch with each of its numbers raised to the given number, if it is lower
 abbrev pub raised : ScratchValue → ℕ → ℕ → ScratchValue
 raised scratch states indexes = record { states = max scratch.states states; indexes = max scratch.indexes indexes }
 
--- the new scratch has room for all that the old one has room for, so it fits each set and each matcher that the old one fits
+-- the new scratch has at least the room of the old scratch, so it fits each set and each matcher that the old scratch fits
 abbrev pub FitsAsBefore : ScratchValue → ScratchValue → Type 0
 FitsAsBefore old new = (states indexes : ℕ) → HasCapacity old states indexes → HasCapacity new states indexes

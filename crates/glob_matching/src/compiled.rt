@@ -20,8 +20,8 @@ use std::sync::Arc;
 /// The most bytes that rows are kept in between calls, unless another limit is set: 16 MiB.
 pub const DEFAULT_DFA_SIZE_LIMIT: usize = 1 << 24;
 
-/// An automaton as it is run: by rows that are known, and where one is not, by rows that are made; and where there is no room for
-/// rows, stepped from one set of states to the next. Contracts see the automaton that it was made from.
+/// An automaton, compiled for running: by rows that are known, otherwise by rows that are made, and where there is no room for
+/// rows, stepped from a set of states to the next. Contracts see the original automaton.
 #[derive(Drop)]
 pub struct Compiled {
     source: Source,
@@ -42,7 +42,7 @@ impl Model for Compiled {
 }
 
 impl Compiled {
-    /// Returns an automaton as it is run. It takes time and memory linear in the states. Returns an error if memory runs out.
+    /// Returns an automaton as it is run. It takes time and memory linear in the states.
     ///
     /// Calls keep rows in at most four caches, which take at most the share of `dfa_size_limit` bytes that the states have in
     /// `all_states`. Where the share is too small, there are no rows.
@@ -76,7 +76,7 @@ impl Compiled {
         }
     }
 
-    /// Makes a cache and keeps it for later calls, unless one was made before, or there is no room or no memory for it.
+    /// Makes a cache and keeps it for later calls, unless a cache was made before, or there is no room or no memory for it.
     pub fn keep_cache(&self) {
         if let Some(rows) = &self.rows {
             rows.keep_one();
@@ -120,11 +120,11 @@ impl Compiled {
 }
 
 impl Compiled {
-    /// Puts the indexes of the tokens that match a text into a set, beside what it holds.
+    /// Puts the indexes of the tokens that match a text into a set, next to its contents.
     ///
-    /// It is at most `(text bytes + 1) * (states + 3 * starts)` visits. What the sets of states held has no effect; their room
-    /// grows to the states, if these are stepped. Returns an error if memory runs out, and so none if they have room for all
-    /// states; some of the indexes may be in the set then.
+    /// It is at most `(text bytes + 1) * (states + 3 * starts)` visits. The old contents of the sets of states have no effect. If
+    /// the automaton is stepped, their room grows to its states. It allocates nothing if they have room for all states. After an
+    /// error some of the indexes may be in the set.
     pub fn find(
         &self,
         text: &[u8],
@@ -153,9 +153,8 @@ impl Compiled {
 
     /// Returns whether tokens match a text.
     ///
-    /// It is at most `(text bytes + 1) * (states + 3 * starts)` visits. What the sets of states held has no effect; their room
-    /// grows to the states, if these are stepped. Returns an error if memory runs out, and so none if they have room for all
-    /// states.
+    /// It is at most `(text bytes + 1) * (states + 3 * starts)` visits. The old contents of the sets of states have no effect. If
+    /// the automaton is stepped, their room grows to its states. It allocates nothing if they have room for all states.
     pub fn is_match(
         &self,
         text: &[u8],
@@ -181,9 +180,8 @@ impl Compiled {
 
     /// Returns whether some tokens match a text that begins with `text` and then `byte`.
     ///
-    /// It is at most `(text bytes + 2) * (states + 3 * starts)` visits. What the sets of states held has no effect; their room
-    /// grows to the states, if these are stepped. Returns an error if memory runs out, and so none if they have room for all
-    /// states.
+    /// It is at most `(text bytes + 2) * (states + 3 * starts)` visits. The old contents of the sets of states have no effect. If
+    /// the automaton is stepped, their room grows to its states. It allocates nothing if they have room for all states.
     pub fn can_match_after(
         &self,
         text: &[u8],
@@ -217,7 +215,7 @@ impl Compiled {
 }
 
 impl Compiled {
-    /// The same as [`Compiled::find`], by the rows of a cache if there is one.
+    /// Like [`Compiled::find`], by the rows of a cache if there is any.
     ///
     /// It takes memory, and so returns an error if it runs out, only if the sets of states have no room for all states.
     pub fn find_with(
@@ -247,7 +245,7 @@ impl Compiled {
         Ok(())
     }
 
-    /// The same as [`Compiled::is_match`], by the rows of a cache if there is one.
+    /// Like [`Compiled::is_match`], by the rows of a cache if there is any.
     ///
     /// It takes memory, and so returns an error if it runs out, only if the sets of states have no room for all states.
     pub fn is_match_with(
@@ -274,7 +272,7 @@ impl Compiled {
         Ok(rows.is_match(text, visits))
     }
 
-    /// The same as [`Compiled::can_match_after`], by the rows of a cache if there is one.
+    /// Like [`Compiled::can_match_after`], by the rows of a cache if there is any.
     ///
     /// It takes memory, and so returns an error if it runs out, only if the sets of states have no room for all states.
     pub fn can_match_after_with(

@@ -17,7 +17,7 @@ pub struct Kept {
     pub cache: Cache,
     /// How many bytes its rows may take.
     bytes: usize,
-    /// How many calls used it.
+    /// The number of calls that used it.
     uses: usize,
 }
 
@@ -27,19 +27,19 @@ impl Fits for Kept {
     ghost fits = { λ automaton kept. kept.cache ≡ automaton };
 }
 
-/// The caches of one automaton that calls through a shared reference use. Contracts see the automaton.
+/// The caches of an automaton that calls through a shared reference use. Contracts see the automaton.
 ///
-/// A cache that many calls used has most rows that texts lead to. It is published: calls read what it has, at once and without
-/// writing, and from then on it has no more rows. Those that were published before it stay, since calls may be reading them.
+/// A cache that many calls used has most rows that texts lead to. It is published: calls then read its entries at once, without
+/// writing, and it gets no more rows. Earlier published caches stay, since calls may be reading them.
 #[derive(Drop)]
 pub struct KeptCaches {
     pool: Pool<Kept>,
     first: Published,
     second: Published,
     third: Published,
-    /// How many bytes one takes at most.
+    /// The most bytes of a cache.
     most_bytes: usize,
-    /// How many bytes the next one takes.
+    /// The bytes of the next cache.
     next_bytes: AtomicUsize,
     /// How many there are, and how many bytes they take.
     made: AtomicUsize,
@@ -91,7 +91,7 @@ const SECOND_USES: usize = 1 << 14;
 const THIRD_USES: usize = 1 << 18;
 
 impl KeptCaches {
-    /// Returns room for the caches of an automaton, each of which takes at most so many bytes, and of which none is made.
+    /// Returns room for the caches of an automaton, of at most `most_bytes` bytes each. None is made yet.
     pub fn new(automaton: &Nfa, most_bytes: usize) -> KeptCaches
         ensures { result ≡ automaton.now }
     {
@@ -108,7 +108,7 @@ impl KeptCaches {
         }
     }
 
-    /// Takes a cache out for one call, if one is there that no other call uses.
+    /// Takes a cache out for a call, if any is there that no other call uses.
     pub fn take(&self) -> Option<Kept>
         ensures { IfSome result (λ kept. kept.cache ≡ self.now) }
     {
@@ -131,8 +131,9 @@ impl KeptCaches {
         }
     }
 
-    /// Gives a cache back after a call, for later calls. In a call that may take memory, one that has no room for all rows makes way
-    /// for a larger one; and one that so many calls used is published: the next call for which it lacks an entry makes another.
+    /// Gives a cache back after a call, for later calls. In a call that may allocate, a cache without room for all rows makes way
+    /// for a larger cache. A cache that enough calls used is published, and the next call that misses an entry of it makes
+    /// another.
     pub fn give(&self, kept: Kept, may_make: bool)
         requires { kept.cache ≡ self.now }
     {
@@ -191,7 +192,7 @@ impl KeptCaches {
         Some(&self.third)
     }
 
-    /// Returns whether a call that found none may make one, so far as the number of such calls says.
+    /// Returns whether a call that found no cache may make one, by the number of such calls.
     pub fn were_missed(&self) -> bool {
         self.misses.load(Ordering::SeqCst) >= FIRST_CALLS
             || self.misses.fetch_add(1, Ordering::SeqCst) >= FIRST_CALLS
@@ -202,7 +203,7 @@ impl KeptCaches {
         self.next_bytes.load(Ordering::SeqCst)
     }
 
-    /// Counts one cache more, of so many bytes, which the caller makes. Returns whether there is room for it.
+    /// Counts another cache, of `bytes` bytes, which the caller makes. Returns whether there is room for it.
     pub fn count_one_more(&self, bytes: usize) -> bool {
         if self.made.load(Ordering::SeqCst) >= MOST_KEPT {
             return false;
@@ -215,7 +216,7 @@ impl KeptCaches {
         true
     }
 
-    /// Counts one cache less, of so many bytes, which could not be made or kept.
+    /// Takes a cache of `bytes` bytes, which could not be made or kept, out of the count.
     pub fn count_one_less(&self, bytes: usize) {
         self.bytes.fetch_sub(bytes, Ordering::SeqCst);
         self.made.fetch_sub(1, Ordering::SeqCst);

@@ -51,7 +51,7 @@ impl<X: Fits> Pool<X> {
 }
 
 impl<X: Fits + Drop> Pool<X> {
-    /// Takes a value out, if one is there that no other call is at.
+    /// Takes a value out, if any is there that no other call accesses.
     pub fn take(&self) -> Option<X>
         ensures { IfSome result (X.fits self.now) }
     {
@@ -79,7 +79,7 @@ impl<X: Fits + Drop> Pool<X> {
     }
 }
 
-/// Takes the value of a slot, if it has one and no other call is at it.
+/// Takes the value of a slot, if there is any and no other call accesses the slot.
 fn taken<X: Fits>(slot: &Counted<Option<X>>) -> Option<X>
     ensures { IfSome result (X.fits slot.now) }
 {
@@ -95,7 +95,7 @@ fn taken<X: Fits>(slot: &Counted<Option<X>>) -> Option<X>
     claim.put(None, FREE)
 }
 
-/// Puts a value into a slot that has none. Returns the value if the slot has one, or another call is at it.
+/// Puts a value into an empty slot. Returns the value if the slot is full, or another call accesses it.
 fn given<X: Fits + Drop>(slot: &Counted<Option<X>>, value: X) -> Option<X>
     requires { X.fits slot.now value }
     ensures { IfSome result (λ x. x ≡ value) }

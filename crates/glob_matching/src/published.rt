@@ -29,7 +29,7 @@ impl SlotRule<Kept> for IsForNumbers {
     ghost holds = { λ list kept. (nfa : NfaValue) → numbers nfa ≡ list → kept.cache ≡ nfa };
 }
 
-/// Room for one cache, for good. Contracts see the automaton that the cache is for.
+/// Room for a cache, for good. Contracts see the automaton that the cache is for.
 #[derive(Drop)]
 pub struct Published {
     slot: OnceSlot<Kept, IsForNumbers>,
@@ -59,14 +59,14 @@ impl Published {
         }
     }
 
-    /// Returns the cache, if there is one.
+    /// Returns the cache, if there is any.
     pub fn get(&self) -> Option<&Kept>
         ensures { IfSome result (λ kept. kept.now.cache ≡ self.now) }
     {
         self.slot.get()
     }
 
-    /// Puts the cache in, for good. Returns it if there is one already, or another call is putting one in.
+    /// Puts the cache in, for good. Returns it if there is a cache already, or another call is putting one in.
     pub fn set(&self, kept: Kept) -> Option<Kept>
         requires { kept.cache ≡ self.now }
         ensures { IfSome result (λ kept. kept.cache ≡ self.now) }

@@ -46,8 +46,8 @@ impl RowSource {
     /// Returns what rows of an automaton are made from.
     ///
     /// At most four caches are kept between calls, which take at most the share of `dfa_size_limit` bytes that the states have in
-    /// `all_states`. It takes time and memory linear in the states. Returns `None` if the share is too small or there are too many
-    /// states or indexes, and an error if memory runs out.
+    /// `all_states`. It takes time and memory linear in the states. Returns `None` if the share is too small or there are too
+    /// many states or indexes.
     pub fn new(
         alloc: Global,
         dfa_size_limit: usize,
@@ -87,8 +87,8 @@ impl RowSource {
         self.kept.bytes()
     }
 
-    /// Makes a cache of the most bytes and keeps it for later calls, unless one was made before, or there is no room or no memory for
-    /// it.
+    /// Makes a cache of the most bytes and keeps it for later calls, unless a cache was made before, or there is no room or no
+    /// memory for it.
     pub fn keep_one(&self) {
         if self.kept.bytes() > 0 {
             return;
@@ -98,7 +98,7 @@ impl RowSource {
         }
     }
 
-    /// Takes a cache that is kept for one call. If there is none and memory may be taken, it makes one, but for the first calls.
+    /// Takes a cache that is kept for one call. If there is none and memory may be taken, it makes one, except the first calls.
     fn take(&self, may_make: bool) -> Option<Kept>
         ensures { IfSome result (λ kept. kept.cache ≡ self.now) }
     {
@@ -141,9 +141,9 @@ impl RowSource {
 }
 
 impl RowSource {
-    /// Puts the index of each end that a text leads to into a set, beside what it holds, by the rows of the cache that was
-    /// published last, or, where an entry is not known there, by those of a cache that is kept. Returns whether there was one, or,
-    /// if memory may be taken, one could be made. If not, some of the indexes may be in the set.
+    /// Puts the index of each end that a text leads to into a set, next to its contents. It reads the rows of the cache that was
+    /// published last, and where an entry is not known there, the rows of a kept cache. Returns whether there was a cache, or, if
+    /// the call may allocate, a new cache. If not, some of the indexes may be in the set.
     pub fn find(
         &self,
         text: &[u8],
@@ -194,8 +194,8 @@ impl RowSource {
         Some(is_match)
     }
 
-    /// Returns whether some text that begins with `text` and then `byte` leads to some end, as [`RowSource::find`] finds it, or
-    /// `None` if there was no cache and, if memory may be taken, none could be made.
+    /// Returns whether some text that begins with `text` and then `byte` leads to some end, as [`RowSource::find`] finds it.
+    /// Returns `None` if there was no cache and, if the call may allocate, none could be made.
     pub fn can_match_after(
         &self,
         text: &[u8],
@@ -226,7 +226,7 @@ impl RowSource {
 /// changed what a path took.
 const MOST_BYTES: usize = 1 << 23;
 
-/// With fewer bytes for a cache there is none: so many automata share the room that few globs are run for a text.
+/// With fewer bytes for a cache there is none: then so many automata share the room that few globs are run for a text.
 pub const FEWEST_BYTES: usize = 1 << 12;
 
 /// Returns how many of some bytes an automaton of so many states has, which automata of `all_states` share.

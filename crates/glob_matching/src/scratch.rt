@@ -1,4 +1,4 @@
-//! Memory of the caller, in which globs are matched.
+//! Memory of the caller, for matching globs.
 
 ghost use Rattle.std.specs.Prelude.{◌≡◌, ◌≤◌, ◌^◌, ◌↔◌, ℕ, MatchOption, IfOk, IsOk, IsOkUnless, OnOk, OnErr, IsTrue};
 ghost use Rattle.glob_text.specs.Errors.{out_of_memory};
@@ -10,7 +10,7 @@ use lazy_dfa::StateSets;
 use std::alloc::{AllocError, Global};
 use std::marker::Model;
 
-/// What is matched in a [`Scratch`]: a `GlobSet` or a `GlobMatcher`.
+/// Something that is matched in a [`Scratch`]: a `GlobSet` or a `GlobMatcher`.
 ///
 /// Contracts see two numbers: of states, and of indexes.
 pub trait NeedsScratch {
@@ -31,16 +31,16 @@ pub trait NeedsScratch {
     fn keep_caches(&self);
 }
 
-/// All the memory that sets and matchers need to match a path. A set needs two bits for each state of its largest automaton,
-/// and one for each glob; a matcher at most 8 bits for each byte of its glob's text and 8 more, or four times as much under
+/// All the memory that sets and matchers need to match a path. A set needs two bits for each state of its largest automaton, and
+/// a bit for each glob. A matcher needs at most 8 bits for each byte of its glob's text and 8 more, or four times as much under
 /// `whole_character`.
 ///
 /// With a scratch that fits the set, `GlobSet::is_match_with` and `GlobSet::matches_all_with` cannot fail, and nor can
-/// `GlobSet::matches_into_with` if the vector has a capacity of `GlobSet::len`. With one that fits the matcher,
-/// `GlobMatcher::is_match_with` cannot fail. What earlier calls left in a scratch has no effect. It can be used with each set
-/// and each matcher that it fits, and [`Scratch::fit`] makes it fit one more.
+/// `GlobSet::matches_into_with` if the vector has a capacity of `GlobSet::len`. With a scratch that fits the matcher,
+/// `GlobMatcher::is_match_with` cannot fail. The contents of a scratch have no effect. It can be used with each set and each
+/// matcher that it fits, and [`Scratch::fit`] makes it fit another.
 ///
-/// Calls with a scratch use the rows that the set or the matcher keeps between calls, and take no memory for more.
+/// Calls with a scratch use the rows that the set or the matcher keeps between calls, and allocate no more.
 ///
 /// Contracts see two numbers: of states, and of indexes.
 ///
@@ -101,12 +101,12 @@ impl Scratch {
         }
     }
 
-    /// Returns a scratch that fits the set or the matcher. It takes two bits of memory for each state of the set's largest
-    /// automaton, and one for each glob; for a matcher at most 8 bits for each byte of the glob's text and 8 more, or four
-    /// times as much under `whole_character`. Each automaton that keeps rows between calls, and has none yet, takes memory for
-    /// them here, if there is enough.
+    /// Returns a scratch that fits the set or the matcher. For a set it allocates two bits for each state of the largest
+    /// automaton, and a bit for each glob. For a matcher it allocates at most 8 bits for each byte of the glob's text and 8 more,
+    /// or four times as much under `whole_character`. Each automaton that keeps rows between calls, and has none yet, gets memory
+    /// for them here, if there is enough.
     ///
-    /// Returns an error if memory runs out, and no other.
+    /// Fails only if memory runs out.
     pub fn new<S: NeedsScratch>(alloc: Global, set: &S) -> Result<Scratch, Error>
         ensures states { IfOk result (λ scratch. scratch.states ≡ S.states set.now) }
         ensures indexes { IfOk result (λ scratch. scratch.indexes ≡ S.indexes set.now) }
@@ -119,11 +119,10 @@ impl Scratch {
         Ok(scratch)
     }
 
-    /// Makes the scratch fit one more set or matcher. It takes memory for what the scratch has too little of, as
-    /// [`Scratch::new`] does, and none if the scratch fits the set or the matcher already.
+    /// Makes the scratch fit another set or matcher. It allocates what the scratch lacks, as [`Scratch::new`] does, and nothing
+    /// if the scratch fits the set or the matcher already.
     ///
-    /// Returns an error if memory runs out, and no other. In both cases the scratch fits each set and each matcher that it
-    /// fitted before.
+    /// Fails only if memory runs out. In both cases the scratch fits each set and each matcher that it fitted before.
     ///
     /// ```rust
     /// use globset::{Candidate, Glob, GlobSet, Scratch, Visits};
@@ -160,8 +159,8 @@ impl Scratch {
         Ok(())
     }
 
-    /// Returns whether the scratch fits the set or the matcher: whether neither of its numbers is below what that needs. It fits
-    /// what it was made for.
+    /// Returns whether the scratch fits the set or the matcher: whether neither of its numbers is below the need. It fits the set
+    /// or the matcher that it was made for.
     ///
     /// ```rust
     /// use globset::{Candidate, Glob, GlobSet, Scratch, Visits};

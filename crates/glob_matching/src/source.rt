@@ -1,4 +1,4 @@
-//! What is known of an automaton beside the one that is run for it.
+//! Facts of an automaton, for calls that do not run it.
 
 ghost use Rattle.std.specs.Prelude.{◌≡◌, ◌+◌, ℕ, IsTrue, IfOk};
 ghost use Rattle.byte_nfa.specs.Runs.{size};
@@ -10,7 +10,7 @@ use std::alloc::AllocError;
 use std::marker::Model;
 use std::snapshot::Snapshot;
 
-/// How many states an automaton has, and by which bytes texts end that lead to an end. Contracts see the automaton.
+/// The number of states of an automaton, and the last bytes of texts that lead to an end. Contracts see the automaton.
 #[derive(Drop)]
 pub struct Source {
     state_count: usize,
@@ -31,8 +31,7 @@ impl Model for Source {
 }
 
 impl Source {
-    /// Returns what is known of an automaton. It reads each state, and takes a bit of memory for each until it returns. Returns an
-    /// error if memory runs out.
+    /// Returns these facts of an automaton. It reads each state, and takes a bit of memory for each until it returns.
     pub fn of(automaton: &Nfa) -> Result<Source, AllocError>
         ensures { IfOk result (λ source. source ≡ automaton.now) }
     {
@@ -50,7 +49,7 @@ impl Source {
         self.state_count
     }
 
-    /// Returns whether the last byte of a text shows that it leads to no end. It is one visit, also of a text that is empty.
+    /// Returns whether the last byte of a text shows that it leads to no end. It is a visit, also of an empty text.
     pub fn rejects_last_byte(&self, text: &[u8], visits: &mut Visits) -> bool
         ensures rejected { IsTrue result → (k : ℕ) → IsReached self.now text.now k → ⊥ }
         ensures visits { visits.new ≡ visits.old + 1 }

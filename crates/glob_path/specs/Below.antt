@@ -5,7 +5,7 @@ use Rattle.std.specs.Prelude.{◌≡◌, ℕ, List, [], ◌∷◌, ◌++◌}
 abbrev pub path_below : List ℕ → List ℕ → List ℕ
 path_below folder rest = folder ++ 47 ∷ rest
 
--- the folder and the `/`, with which each path below the folder begins
+-- the folder and the `/`: the beginning of each path below the folder
 abbrev pub folder_start : List ℕ → List ℕ
 folder_start folder = folder ++ 47 ∷ []
 

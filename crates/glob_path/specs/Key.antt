@@ -5,7 +5,7 @@ use Rattle.glob_path.specs.PathParts.{last_component, component_extension}
 use Rattle.glob_path.specs.declared.key.Key.{Key}
 use Rattle.glob_path.specs.declared.key.Key.TheVariants as held
 
--- A key is bytes, and says what they are compared with.
+-- A key is bytes, with the part of a path that they are compared with.
 pub data KeyValue : Type 0 where
   -- the path
   WholePath : List ℕ → KeyValue
@@ -13,7 +13,7 @@ pub data KeyValue : Type 0 where
   Basename : List ℕ → KeyValue
   -- the extension of the path's last component
   Extension : List ℕ → KeyValue
-  -- the last components of the path, as many as the key has
+  -- the last components of the path, of the number that the key has
   ComponentSuffix : List ℕ → KeyValue
   -- the end of the path
   Suffix : List ℕ → KeyValue
@@ -54,7 +54,7 @@ KeyMatches (Suffix bytes) path = (front : List ℕ) × (front ++ bytes ≡ path)
 KeyMatches (Prefix bytes) path = (rest : List ℕ) × (bytes ++ rest ≡ path)
 
 -- Some path below the folder may match the key. A path below a folder may have any last component, any extension and any end, so
--- the folder tells only of keys that are a whole path or the beginning of one.
+-- the folder excludes only keys that are a whole path or the beginning of a path.
 abbrev pub KeyMayMatchBelow : KeyValue → List ℕ → Type 0
 -- the key is below the folder
 KeyMayMatchBelow (WholePath bytes) folder = BeginsWith bytes (folder_start folder)

@@ -27,7 +27,7 @@ keys_found t path = indexes_under t.paths path
     ++ (indexes_under t.extensions (component_extension path)
     ++ (found (texts_at Start t.prefixes) path ++ found (texts_at End t.ends) path)))
 
--- ---- one key more
+-- ---- another key
 
 abbrev pub no_keys : KeyParts
 no_keys = record {
@@ -61,7 +61,7 @@ after_separator key = 47 ∷ key
 abbrev pub with_components : KeyParts → List ℕ → ℕ → KeyParts
 with_components t key n = with_end (with_path t key n) (after_separator key) n
 
--- one index more under a key
+-- another index under a key
 abbrev pub with_key : KeyParts → KeyValue → ℕ → KeyParts
 with_key t (path_key.WholePath bytes) n = with_path t bytes n
 with_key t (path_key.Basename bytes) n = with_component t bytes n
@@ -70,13 +70,13 @@ with_key t (path_key.ComponentSuffix bytes) n = with_components t bytes n
 with_key t (path_key.Suffix bytes) n = with_end t bytes n
 with_key t (path_key.Prefix bytes) n = with_beginning t bytes n
 
--- The new list has n in addition if `more` is true, and is then longer by at most one. Otherwise it has the same indexes, and is
+-- The new list has n in addition if `more` is true, and is then longer by at most 1. Otherwise it has the same indexes, and is
 -- not longer.
 pub record MoreIn (old new : List ℕ) (n : ℕ) (more : Bool) : Type 0 where
   pub has : (k : ℕ) → Contains new k ↔ (Contains old k ⊎ ((n ≡ k) × IsTrue more))
   pub count : length new ≤ length old + cond more 1 0
 
--- For the paths that the test `IsSo` holds of, the new keys find n in addition, and at most one index more than the old keys. For
+-- For the paths that the test `IsSo` holds of, the new keys find n in addition, and at most 1 index more than the old keys. For
 -- all others they find the same indexes, and no more of them.
 abbrev pub FindsMore : KeyParts → KeyParts → ℕ → (List ℕ → Type 0) → Type 0
 FindsMore old new n IsSo = (path : List ℕ) (more : Bool) → (IsTrue more ↔ IsSo path) → MoreIn (keys_found old path) (keys_found new path) n more

@@ -52,7 +52,7 @@ impl<'a> Candidate<'a> {
         Candidate { path }
     }
 
-    /// Returns the path's bytes, the ones that the candidate was made from.
+    /// Returns the path's bytes, as given to the candidate.
     pub fn path(&self) -> &'a [u8]
         ensures { result.now ≡ self.now }
     {

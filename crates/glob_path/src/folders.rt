@@ -30,8 +30,8 @@ impl Model for Folders {
 impl Folders {
     /// Returns the folders of paths and of beginnings.
     ///
-    /// Returns an error if memory runs out. The time is linear in the bytes of all keys, except that their folders are sorted. A copy
-    /// is kept of each folder that differs from the others; until then, a few words are taken for each key.
+    /// The time is linear in the bytes of all keys, except that their folders are sorted. A copy is kept of each folder that
+    /// differs from the others; until then, a few words are taken for each key.
     pub fn new(alloc: Global, paths: &[Text], prefixes: &[Text]) -> Result<Folders, AllocError>
         ensures { IfOk result
             (λ folders. AreFolders folders (map entry_of paths.now) (map entry_of prefixes.now)) }
@@ -48,8 +48,8 @@ impl Folders {
 
     /// Returns whether some key begins with the folder and a `/`.
     ///
-    /// It is one visit, and takes no memory. It is a binary search: among at most `2^n` folders of keys it makes at most `n + 1`
-    /// comparisons, each of which reads at most one byte more than the folder has.
+    /// It is a visit, and does not allocate. It is a binary search: among at most `2^n` folders of keys it makes at most `n + 1`
+    /// comparisons. Each reads at most `folder bytes + 1` bytes.
     pub fn has_below(&self, folder: &[u8], visits: &mut Visits) -> bool
         ensures some { IsTrue result ↔ SomeBelow self.now folder.now }
         ensures visits { visits.new ≡ visits.old + 1 }
@@ -81,7 +81,7 @@ fn start_of(key: &[u8]) -> &[u8]
     &key[..key.len() - name.len()]
 }
 
-/// Returns copies of texts. Returns an error if memory runs out.
+/// Returns copies of texts.
 fn copies(alloc: Global, texts: &[&[u8]]) -> Result<Vec<Vec<u8>>, AllocError>
     ensures { IfOk result (λ copies. bytes_of copies.items ≡ shown_of texts.now) }
 {
@@ -92,7 +92,8 @@ fn copies(alloc: Global, texts: &[&[u8]]) -> Result<Vec<Vec<u8>>, AllocError>
     Ok(copies)
 }
 
-/// Returns where a text is in the order of bytes: before all texts that begin with the folder and a `/`, among them, or after them.
+/// Returns where a text is in the order of bytes: before all texts that begin with the folder and a `/`, among them, or after
+/// them.
 fn place(text: &[u8], folder: &[u8]) -> Ordering
     ensures { result ≡ place_of text.now (folder_start folder.now) }
 {

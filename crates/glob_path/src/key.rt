@@ -9,7 +9,7 @@ use crate::parts;
 /// Bytes that a path or a part of it is compared with.
 #[derive(Drop)]
 pub enum Key {
-    /// The key matches the path that it is, and no other.
+    /// The key matches the path equal to it.
     WholePath(Vec<u8>),
     /// The key matches the paths whose last component it is, also if that is `..`.
     Basename(Vec<u8>),
@@ -52,11 +52,11 @@ impl Key {
         }
     }
 
-    /// Returns whether the key may match some path below a folder, which is a path without a `/` at its end: the folder, a `/`, and
-    /// any bytes. It compares the key with the folder, and allocates nothing.
+    /// Returns whether the key may match some path below a folder, which is a path without a `/` at its end: the folder, a `/`,
+    /// and any bytes. It compares the key with the folder, and allocates nothing.
     ///
-    /// For a whole path or the beginning of one it is exact. For other keys it is true, since a path below the folder may end with
-    /// any bytes. It is not asked whether the key can be a last component or an extension at all.
+    /// For a whole path or a beginning it is exact. For other keys it is true, since a path below the folder may end with any
+    /// bytes. The call does not check whether the key can be a last component or an extension at all.
     pub fn can_match_below(&self, folder: &[u8]) -> bool
         ensures { IsTrue result ↔ KeyMayMatchBelow (key_seen self.now) folder.now }
     {
@@ -105,8 +105,8 @@ fn is_below(key: &[u8], folder: &[u8]) -> bool
     }
 }
 
-/// Returns whether some path below the folder begins with the key: whether the key begins with the folder and a `/`, or these begin
-/// with the key.
+/// Returns whether some path below the folder begins with the key: whether the key begins with the folder and a `/`, or these
+/// begin with the key.
 fn may_have_prefix(folder: &[u8], key: &[u8]) -> bool
     ensures { IsTrue result ↔ KeyMayMatchBelow (Prefix key.now) folder.now }
 {

@@ -1,8 +1,8 @@
 //! Paths, the parts of them that globs are compared with, and keys for these.
 //!
-//! A [`Candidate`] is a path. A [`Key`] is a text that is compared with a path or with a part of it. [`LiteralIndexBuilder`] takes
-//! keys with their indexes. [`LiteralIndex`] looks up a path and its parts in tables, and walks through tries along it. It also
-//! tells whether a path below a folder may find a key. Nothing here knows globs.
+//! A [`Candidate`] is a path. A [`Key`] is a text to compare with a path or with a part of it. [`LiteralIndexBuilder`] takes keys
+//! with their indexes. [`LiteralIndex`] looks up a path and its parts in tables, and walks through tries along it. It also
+//! returns whether a path below a folder may find a key. Nothing here knows globs.
 #![tactic(auto)]
 
 mod as_path;

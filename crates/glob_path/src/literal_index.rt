@@ -18,7 +18,7 @@ use byte_keys::{Anchor, Table, TableBuilder, Text, Trie};
 use std::alloc::{AllocError, Global};
 use std::marker::Model;
 
-/// Indexes under keys, where a path finds those of the keys that match it.
+/// Indexes under keys, where a path finds the keys that match it.
 #[derive(Drop)]
 pub struct LiteralIndex {
     paths: Table,
@@ -46,12 +46,12 @@ impl Model for LiteralIndex {
 }
 
 impl LiteralIndex {
-    /// Returns whether the last component of a path is asked for.
+    /// Returns whether the last component of a path is looked up.
     pub fn uses_last_component(&self) -> bool {
         !self.components.is_empty()
     }
 
-    /// Returns whether the extension of a path is asked for.
+    /// Returns whether the extension of a path is looked up.
     pub fn uses_extension(&self) -> bool {
         !self.extensions.is_empty()
     }
@@ -66,9 +66,9 @@ impl LiteralIndex {
         self.prefixes.is_empty() && self.ends.is_empty()
     }
 
-    /// Puts the indexes that the path finds into a set, beside what it holds: those under it, under its last component and under
-    /// the extension of that, and those of the texts that it begins or ends with. An index that the set has no room for is left
-    /// out. A part of the path is only searched for if there are keys for it. It takes no memory.
+    /// Adds the indexes that the path finds to a set: under the path, under its last component and under its extension, and under
+    /// the texts that it begins or ends with. An index that the set has no room for is left out. A part of the path is only
+    /// searched for if there are keys for it. It does not allocate.
     pub fn find(&self, path: &PathParts<'_>, found: &mut IndexSet, visits: &mut Visits)
         ensures room { index_capacity found.new ≡ index_capacity found.old }
         ensures found { HasAlso found.old found.new (keys_found self.now path.now) }
@@ -82,7 +82,7 @@ impl LiteralIndex {
         self.ends.find(path.path(), found, visits);
     }
 
-    /// Returns whether the path finds an index. It takes no memory.
+    /// Returns whether the path finds an index. It does not allocate.
     pub fn is_match(&self, path: &PathParts<'_>, visits: &mut Visits) -> bool
         ensures some { IsTrue result ↔ (keys_found self.now path.now ≢ []) }
         ensures visits { visits.new ≤ visits.old + (3 + 2 * (length path.now + 1)) }
@@ -103,14 +103,14 @@ impl LiteralIndex {
         self.ends.is_match(path.path(), visits)
     }
 
-    /// Returns whether some key may be found for a path below a folder, which is a path without a `/` at its end. A walk over a tree
-    /// of folders need not enter one for which this is false: no path in it finds a key.
+    /// Returns whether some key may be found for a path below a folder. The folder has no `/` at its end. If it is false, no path
+    /// in the folder finds a key, and a walk over a tree of folders need not enter it.
     ///
-    /// It may be true and still no path below the folder find a key, since it takes each path to have any last component, any
-    /// extension and any end. So it is true for all folders if there is a key for one of these.
+    /// It may be true and still no path below the folder find a key, since it lets each path have any last component, any
+    /// extension and any end. So it is true for all folders if there is a key for a last component, an extension or an end.
     ///
-    /// It is at most one lookup, which is a binary search among the folders of the paths and beginnings, and one walk. It takes no
-    /// memory.
+    /// It is at most a lookup, which is a binary search among the folders of the paths and beginnings, and a walk. It does not
+    /// allocate.
     pub fn can_match_below(&self, folder: &[u8], visits: &mut Visits) -> bool
         ensures some { IsTrue result ↔ MatchesBelow self.now folder.now }
         ensures visits { visits.new ≤ visits.old + (length folder.now + 2) }
@@ -125,7 +125,7 @@ impl LiteralIndex {
         self.prefixes.is_match(folder, visits)
     }
 
-    /// Returns how many indexes the path finds, or `None` if these are more than a `usize` can count. It takes no memory.
+    /// Returns how many indexes the path finds, or `None` if these are more than a `usize` can count. It does not allocate.
     pub fn count_found(&self, path: &PathParts<'_>, visits: &mut Visits) -> Option<usize>
         ensures count { MatchOption result (2 ^ 64 ≤ length (keys_found self.now path.now))
             (λ count. count ≡ length (keys_found self.now path.now)) }
@@ -229,7 +229,7 @@ impl LiteralIndexBuilder {
         }
     }
 
-    /// Adds an index for the paths that a key matches. Returns an error if memory runs out.
+    /// Adds an index for the paths that a key matches.
     pub fn add(&mut self, key: Key, index: usize) -> Result<(), AllocError>
         ensures keys { OnOk result (self.new ≡ with_key self.old (key_seen key) index) }
         ensures found { OnOk result
@@ -240,7 +240,7 @@ impl LiteralIndexBuilder {
         self.put(key, index)
     }
 
-    /// Returns what was added. Returns an error if memory runs out.
+    /// Returns the index of the keys that were added.
     ///
     /// The time is linear in the bytes of all keys, except that the beginnings, the ends and the folders of keys are sorted.
     pub fn finish(self, alloc: Global) -> Result<LiteralIndex, AllocError>
@@ -264,7 +264,7 @@ impl LiteralIndexBuilder {
         })
     }
 
-    /// Puts an index under a key, where keys of its kind are. Returns an error if memory runs out.
+    /// Puts an index under a key, where keys of its kind are.
     fn put(&mut self, key: Key, index: usize) -> Result<(), AllocError>
         ensures { OnOk result (self.new ≡ with_key self.old (key_seen key) index) }
     {
@@ -278,7 +278,7 @@ impl LiteralIndexBuilder {
         }
     }
 
-    /// Puts an index under a whole path. Returns an error if memory runs out.
+    /// Puts an index under a whole path.
     fn put_path(&mut self, bytes: Vec<u8>, index: usize) -> Result<(), AllocError>
         ensures { OnOk result (self.new ≡ with_path self.old bytes.items index) }
     {
@@ -286,7 +286,7 @@ impl LiteralIndexBuilder {
         Ok(())
     }
 
-    /// Puts an index under the beginning of paths. Returns an error if memory runs out.
+    /// Puts an index under the beginning of paths.
     fn put_beginning(&mut self, bytes: Vec<u8>, index: usize) -> Result<(), AllocError>
         ensures { OnOk result (self.new ≡ with_beginning self.old bytes.items index) }
     {
@@ -294,7 +294,7 @@ impl LiteralIndexBuilder {
         Ok(())
     }
 
-    /// Puts an index under the end of paths. Returns an error if memory runs out.
+    /// Puts an index under the end of paths.
     fn put_end(&mut self, bytes: Vec<u8>, index: usize) -> Result<(), AllocError>
         ensures { OnOk result (self.new ≡ with_end self.old bytes.items index) }
     {
@@ -302,7 +302,7 @@ impl LiteralIndexBuilder {
         Ok(())
     }
 
-    /// Puts an index under a whole path, and under the end that is `/` and the same bytes. Returns an error if memory runs out.
+    /// Puts an index under a whole path, and under the end that is `/` and the same bytes.
     fn put_components(&mut self, bytes: Vec<u8>, index: usize) -> Result<(), AllocError>
         ensures { OnOk result (self.new ≡ with_components self.old bytes.items index) }
     {
@@ -327,7 +327,7 @@ impl LiteralIndexBuilder {
         !self.ends.is_empty()
     }
 
-    /// Returns the folders of paths and beginnings, or `None` if there are other keys. Returns an error if memory runs out.
+    /// Returns the folders of paths and beginnings, or `None` if there are other keys.
     fn folders(&self, alloc: Global) -> Result<Option<Folders>, AllocError>
         ensures { IfOk result
             (λ folders. HasFolders folders self.now.paths self.now.components self.now.extensions
@@ -343,7 +343,7 @@ impl LiteralIndexBuilder {
     }
 }
 
-/// Returns a table of texts. Returns an error if memory runs out.
+/// Returns a table of texts.
 fn table_of(alloc: Global, texts: Vec<Text>) -> Result<Table, AllocError>
     ensures { IfOk result (λ table. table ≡ map entry_of texts.items) }
 {

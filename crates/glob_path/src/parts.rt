@@ -49,8 +49,8 @@ pub fn extension(name: &[u8]) -> &[u8]
     }
 }
 
-/// Returns the bytes of a path's last component from its last `.` on, or nothing if it has none. It reads the path from its end to
-/// the last `.` or `/`, and no byte before that.
+/// Returns the bytes of a path's last component from its last `.` on, or nothing if it has none. It reads the path from its end
+/// to the last `.` or `/`, and no byte before that.
 pub fn component_extension(path: &[u8]) -> &[u8]
     ensures { result.now ≡ component_extension path.now }
 {

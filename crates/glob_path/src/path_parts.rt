@@ -35,7 +35,7 @@ impl<'p> Model for PathParts<'p> {
 }
 
 impl<'p> PathParts<'p> {
-    /// Returns a path of which no part was found. It reads none of the path.
+    /// Returns a path whose parts are not found yet. It reads none of the path.
     pub fn new(path: &'p [u8]) -> PathParts<'p>
         ensures path { result ≡ path.now }
         ensures bytes { AllBytes result }

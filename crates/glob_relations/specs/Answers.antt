@@ -1,4 +1,4 @@
--- What is told of globs: whether one is covered by others, and whether two match a path in common.
+-- Answers about globs: whether a glob is covered by others, and whether two match a path in common.
 use Rattle.std.specs.Prelude.{ℕ, Bool, List, [], ◌∷◌, IsTrue, IsFalse}
 use Rattle.std.specs.List.{list_any}
 use Rattle.byte_nfa.specs.Steps.{NfaValue}
@@ -21,8 +21,8 @@ some_match gs path = list_any (λ g. glob_matches g path) gs
 abbrev pub IsCovered : GlobValue → List GlobValue → Domain → Type 0
 IsCovered g by domain = (path : List ℕ) → IsIn domain path → IsTrue (glob_matches g path) → IsTrue (some_match by path)
 
--- what is told is so: that the glob is covered; or that the path is one of the domain, which the glob matches, and none of the others; or
--- that paths lead to more than `limit` different rows of an automaton for the globs
+-- The answer is right: the glob is covered; or the path is in the domain, and only the glob matches it; or paths lead to more
+-- than `limit` different rows of an automaton for the globs.
 abbrev pub TellsCovering : GlobValue → List GlobValue → Domain → ℕ → Coverage → Type 0
 TellsCovering g by domain limit Covered = IsCovered g by domain
 TellsCovering g by domain limit (Not path) = IsIn domain path.items × IsTrue (glob_matches g path.items) × IsFalse (some_match by path.items)
@@ -32,8 +32,8 @@ TellsCovering g by domain limit Unknown = (m : NfaValue) × IsFor m (indexed_glo
 abbrev pub AreDisjoint : GlobValue → GlobValue → Domain → Type 0
 AreDisjoint a b domain = (path : List ℕ) → IsIn domain path → IsTrue (glob_matches a path) → IsTrue (glob_matches b path) → ⊥
 
--- what is told is so: that the globs are disjoint; or that the path is one of the domain, and both match it; or that paths lead to more
--- than `limit` different rows of an automaton for the globs
+-- The answer is right: the globs are disjoint; or the path is in the domain, and both match it; or paths lead to more than
+-- `limit` different rows of an automaton for the globs.
 abbrev pub TellsOverlap : GlobValue → GlobValue → Domain → ℕ → Intersection → Type 0
 TellsOverlap a b domain limit Disjoint = AreDisjoint a b domain
 TellsOverlap a b domain limit (Both path) = IsIn domain path.items × IsTrue (glob_matches a path.items) × IsTrue (glob_matches b path.items)

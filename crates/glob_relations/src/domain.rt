@@ -8,13 +8,13 @@ ghost use Rattle.glob_relations.specs.inner.Places.{kind_of, after_slash, after_
 pub enum Domain {
     /// All lists of bytes.
     AllPaths,
-    /// Relative paths as file systems have them: components that are separated by one `/` each, of which none is empty, `.` or
-    /// `..`, or has a NUL.
+    /// Relative paths as file systems have them: components that are separated by a `/` each; no component is empty, `.` or `..`,
+    /// or has a NUL.
     RelativePaths,
 }
 
 impl Domain {
-    /// Returns the place at which a path begins.
+    /// Returns the place where a path begins.
     pub(crate) fn first_place(self) -> Place
         ensures { result ≡ first_place self }
     {
@@ -25,7 +25,7 @@ impl Domain {
     }
 }
 
-/// What the bytes of a path so far say of whether it can be of a domain.
+/// How far the bytes of a path so far decide whether it is in a domain.
 #[derive(Clone, Copy, PartialEq, Eq, Hash)]
 pub enum Place {
     /// In a path of any bytes.
@@ -115,7 +115,7 @@ impl Place {
     }
 }
 
-/// What tells bytes apart in relative paths.
+/// The kinds of bytes in relative paths.
 #[derive(Clone, Copy)]
 pub enum Kind {
     Slash,

@@ -14,7 +14,7 @@ use bit_sets::{IndexSet, StateSet, Visits};
 use byte_nfa::Nfa;
 use std::alloc::{AllocError, Global};
 
-/// Puts the states that a byte leads to from the states of a list into a set. What the sets held has no effect.
+/// Puts the states that a byte leads to from the states of a list into a set. The sets' old contents have no effect.
 pub fn step(automaton: &Nfa, states: &[usize], byte: u8, from: &mut StateSet, to: &mut StateSet)
     requires below { AreBelow (size automaton.now) states.now }
     requires from_capacity { size automaton.now ≤ state_capacity from.old }

@@ -37,11 +37,11 @@ pub enum Intersection {
     Unknown,
 }
 
-/// Returns whether each path of a domain that a glob matches is matched by some of other globs, or else a path that is not.
+/// Returns whether other globs together match each path of a domain that a glob matches, and otherwise a path that they miss.
 ///
-/// Globs match here as their matchers do, also those that a set excludes. It returns [`Coverage::Unknown`] if paths lead to more than
-/// `limit` rows, of which each is a set of states of the globs, and what the bytes of a path so far say of the domain. Memory is at
-/// most linear in the rows, times the states of the globs. Returns an error if memory runs out.
+/// Globs match here as their matchers do, also those that a set excludes. It returns [`Coverage::Unknown`] if paths lead to more
+/// than `limit` rows. A row is a set of states of the globs, and a place in the domain. Memory is at most linear in the rows,
+/// times the states of the globs. Fails only if memory runs out.
 pub fn covering(
     alloc: Global,
     glob: &Glob,
@@ -69,7 +69,7 @@ fn coverage_of(answer: Answer) -> Coverage
 
 /// Returns whether two globs match no path of a domain in common, or else a path that both match.
 ///
-/// It has the limit and the cost of [`covering`]. Returns an error if memory runs out.
+/// It has the limit and the cost of [`covering`]. Fails only if memory runs out.
 pub fn overlap(
     alloc: Global,
     a: &Glob,
@@ -95,7 +95,7 @@ fn intersection_of(answer: Answer) -> Intersection
     }
 }
 
-/// Returns an automaton in which a glob has the index 0, and each of others has the index 1.
+/// Returns an automaton where a glob has the index 0, and each of the others has the index 1.
 fn automaton_of_one(alloc: Global, glob: &Glob, others: &[Glob]) -> Result<Nfa, AllocError>
     ensures { IfOk result
         (λ m. IsFor m (indexed_glob 0 glob.now ∷ indexed_globs 1 others.now)) }
@@ -108,7 +108,7 @@ fn automaton_of_one(alloc: Global, glob: &Glob, others: &[Glob]) -> Result<Nfa, 
     Ok(builder.finish())
 }
 
-/// Returns an automaton in which a glob has the index 0, and another one has the index 1, and none has the index 2.
+/// Returns an automaton where a glob has the index 0, and another has the index 1, and none has the index 2.
 fn automaton_of_two(alloc: Global, a: &Glob, b: &Glob) -> Result<Nfa, AllocError>
     ensures { IfOk result
         (λ m. IsFor m (indexed_glob 0 a.now ∷ indexed_glob 1 b.now ∷ [])) }

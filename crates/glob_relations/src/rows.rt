@@ -1,4 +1,4 @@
-//! Rows: what a path so far leads to.
+//! Rows: the states that the beginnings of paths lead to.
 
 ghost use Rattle.std.specs.Prelude.{◌≡◌, ℕ, ◌<◌, ◌↔◌, ◌∷◌, [], List, length, slice_get, Some, IfOk, OnOk};
 ghost use Rattle.bit_sets.specs.Texts.{AllBytes};
@@ -8,7 +8,7 @@ use crate::domain::Place;
 use indexmap::IndexSet;
 use std::alloc::{AllocError, Global};
 
-/// A row: the place at which a path is, and the states of an automaton that it leads to.
+/// A row: the place of a path in its domain, and the states of an automaton that it leads to.
 #[derive(PartialEq, Eq, Hash, Drop)]
 pub struct Row {
     pub place: Place,
@@ -22,11 +22,11 @@ pub struct Origin {
     pub byte: u8,
 }
 
-/// Rows, each once, in the order in which they were added.
+/// Rows, each once, in the order of their additions.
 #[derive(Drop)]
 pub struct Rows {
     pub seen: IndexSet<Row>,
-    /// Where each row came from. The first one has an origin of no meaning.
+    /// Where each row came from. The first has an origin of no meaning.
     pub origins: Vec<Origin>,
 }
 

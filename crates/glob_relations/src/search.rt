@@ -16,7 +16,7 @@ use bit_sets::{ByteSet, IndexSet, StateSet};
 use byte_nfa::Nfa;
 use std::alloc::{AllocError, Global};
 
-/// What a search returns.
+/// The answer of a search.
 #[derive(Drop)]
 pub enum Answer {
     /// A path that is wanted.
@@ -52,7 +52,7 @@ impl Memory {
 
 /// Looks for a path of a domain that an automaton reads to ends of all indexes below `required`, and to no end of `required`.
 ///
-/// It stops when there are more rows than the limit. Returns an error if memory runs out.
+/// It stops when there are more rows than the limit.
 pub fn search(
     alloc: Global,
     automaton: &Nfa,
@@ -108,7 +108,7 @@ fn begins_class(boundaries: &ByteSet, byte: u8) -> bool
     byte == 0 || boundaries.has(byte - 1)
 }
 
-/// Returns the row in which a path begins, alone.
+/// Returns the row where a path begins, alone.
 fn first_rows(
     alloc: Global,
     automaton: &Nfa,

@@ -1,4 +1,4 @@
--- What the strategy for a glob says about the paths below a folder.
+-- The meaning of a glob's strategy for the paths below a folder.
 use Rattle.std.specs.Prelude.{◌↔◌, ℕ, List, [], IsTrue}
 use Rattle.bit_sets.specs.Texts.{AllBytes}
 use Rattle.glob_syntax.specs.After.{MeanAfter}
@@ -13,7 +13,7 @@ use Rattle.glob_strategy.specs.Excluded.{are_reported}
 abbrev pub AreReportedBelow : Options → Tokens → List ℕ → Type 0
 AreReportedBelow o ts folder = (rest : List ℕ) × AllBytes rest × IsTrue (are_reported o ts (path_below folder rest))
 
--- What the strategy says about whether a glob with these tokens is reported for some path below the folder.
+-- The strategy's condition for reporting a glob with these tokens for some path below the folder.
 abbrev pub StrategyIsSoundBelow : StrategyValue → Options → Tokens → List ℕ → Type 0
 -- for no folder
 StrategyIsSoundBelow Excluded o ts folder = AreReportedBelow o ts folder → ⊥
@@ -26,7 +26,7 @@ StrategyIsSoundBelow Basename o ts folder = AreReportedBelow o ts folder ↔ Mea
 -- for the folders below which the tokens match something
 StrategyIsSoundBelow Path o ts folder = AreReportedBelow o ts folder ↔ MeanAfter o ts (folder_start folder)
 
--- the key or the extension of the strategy, if it has one, is bytes
+-- the key or the extension of the strategy, if any, is bytes
 abbrev pub HasBytes : StrategyValue → Type 0
 HasBytes Excluded = Unit {0}
 HasBytes (Key key) = AllBytes (key_bytes key)

@@ -8,8 +8,8 @@ use Rattle.glob_path.specs.PathParts.{component_extension}
 use Rattle.glob_strategy.specs.TokenTests.{first_and_rest, ending, is_whole_path, is_last_components, is_star_extension, is_end, is_beginning, is_below_folder}
 
 -- A glob with these tokens is direct: it is case-sensitive, and the tokens are
--- - one or more literals;
--- - RecursivePrefix, and one or more literals;
+-- - at least one literal, and only literals;
+-- - RecursivePrefix, and at least one literal, and only literals;
 -- - `*` that matches `/`, and any literals, perhaps none; or RecursivePrefix before these;
 -- - any literals and a last `*` that matches `/`; or RecursivePrefix alone;
 -- - any literals and a last RecursiveSuffix; or

@@ -14,7 +14,7 @@ pub record IndexedTokens : Type 0 where
   pub tokens : Tokens
   pub index : ℕ
 
--- these three as one value
+-- these three as a value
 abbrev pub indexed : Options → Tokens → ℕ → IndexedTokens
 indexed o ts j = record {
   options = o;

@@ -1,4 +1,4 @@
--- By what a set decides whether a glob is reported.
+-- How a set decides whether a glob is reported.
 use Rattle.std.specs.Prelude.{ℕ, Bool, false, not, ◌&&◌, ◌||◌, ◌==◌, List, [], ◌∷◌, ◌++◌, Option, Some, None, if◌then◌else◌}
 use Rattle.glob_syntax.specs.declared.options.Options.{Options}
 use Rattle.glob_syntax.specs.Token.{Token, Literal, Any, ZeroOrMore, Class, Tokens, end, and_then}
@@ -10,8 +10,8 @@ use Rattle.glob_path.specs.Key as path_key
 use Rattle.glob_strategy.specs.Excluded.{are_excluded}
 use Rattle.glob_strategy.specs.TokenTests.{is_literal_except, first_and_rest, some_all_pass, literal_text, ending, is_extension, is_whole_path, is_last_components, is_star_extension, is_end, is_beginning, is_below_folder}
 
--- The token is a literal other than `/`, a class without the byte of `/`, or under `literal_separator` `?` or `*`. What it
--- matches has no `/`.
+-- The token is a literal other than `/`, a class without the byte of `/`, or under `literal_separator` `?` or `*`. Its matches
+-- have no `/`.
 abbrev pub matches_no_slash : Options → Token → Bool
 matches_no_slash o (Literal c) = not (c == slash)
 matches_no_slash o Any = o.literal_separator
@@ -24,7 +24,7 @@ abbrev pub after_prefix : Tokens → Tokens
 after_prefix end = end
 after_prefix (and_then t ts) = if is_prefix t then ts else and_then t ts
 
--- the tokens before the last ones, if these are a literal `.` and any literals other than `.` and `/`; otherwise all tokens
+-- the tokens before the last, if these are a literal `.` and any literals other than `.` and `/`; otherwise all tokens
 abbrev pub before_ending : Tokens → Tokens
 before_ending end = end
 before_ending (and_then t ts) = if is_extension (and_then t ts) then end else and_then t (before_ending ts)
@@ -41,13 +41,13 @@ is_any_extension o ts = first_and_rest is_prefix is_star_extension ts || (not o.
 abbrev pub is_by_last_component : Options → Tokens → Bool
 is_by_last_component o ts = first_and_rest is_prefix (some_all_pass (matches_no_slash o)) ts
 
--- By what a set decides a glob. A key, and a required extension, is bytes that the glob has as literals.
+-- How a set decides a glob. Keys and required extensions are literals of the glob.
 pub data StrategyValue : Type 0 where
   -- no set returns the glob's index
   Excluded : StrategyValue
   -- a key, which is compared with the path or a part of it
   Key : KeyValue → StrategyValue
-  -- an automaton that is run on what is before the extension, but only for paths whose last component has this extension
+  -- an automaton that is run on the path before the extension, but only for paths whose last component has this extension
   RequiredExtension : List ℕ → StrategyValue
   -- an automaton that is run on the path's last component
   Basename : StrategyValue
@@ -74,6 +74,6 @@ sensitive_strategy o ts =
     (if is_beginning o ts then Key (path_key.Prefix (literal_text ts)) else
     (if is_below_folder ts then Key (path_key.Prefix (literal_text ts ++ slash ∷ [])) else ending_strategy o ts (ending ts)))))))
 
--- The strategy for a glob with these tokens. Keys are compared byte by byte, so only case-sensitive globs have one.
+-- The strategy for a glob with these tokens. Keys are compared byte by byte, so only case-sensitive globs have a key.
 unfoldable pub strategy_of_tokens : Options → Tokens → StrategyValue
 strategy_of_tokens o ts = if are_excluded o ts then Excluded else (if o.case_insensitive then automaton_strategy o ts else sensitive_strategy o ts)

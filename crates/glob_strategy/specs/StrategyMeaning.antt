@@ -1,4 +1,4 @@
--- What the strategy for a glob says about a path.
+-- The meaning of a glob's strategy for a path.
 use Rattle.std.specs.Prelude.{◌≡◌, ◌↔◌, ℕ, Bool, true, false, List, ◌++◌, IsTrue}
 use Rattle.std.specs.Str.{bytes_eq}
 use Rattle.bit_sets.specs.Texts.{AllBytes}
@@ -22,14 +22,14 @@ strategy_seen (held.RequiredExtension extension) = RequiredExtension extension.i
 strategy_seen held.Basename = Basename
 strategy_seen held.Path = Path
 
--- What the strategy says about whether a glob with these tokens is reported for the path.
+-- The strategy's condition for reporting a glob with these tokens for the path.
 abbrev pub StrategyIsSound : StrategyValue → Options → Tokens → List ℕ → Type 0
 -- for no path
 StrategyIsSound Excluded o ts path = are_reported o ts path ≡ false
 -- for the paths that the key matches
 StrategyIsSound (Key key) o ts path = IsTrue (are_reported o ts path) ↔ KeyMatches key path
 -- only for paths whose last component has this extension; and for a path that ends with it, if the tokens before the ending match
--- what is before the extension
+-- the path before the extension
 StrategyIsSound (RequiredExtension extension) o ts path =
     (IsTrue (are_reported o ts path) → component_extension path ≡ extension) × ((front : List ℕ) → front ++ extension ≡ path → are_reported o ts path ≡ tokens_match o (before_ending ts) front)
 -- for the paths whose last component the tokens after RecursivePrefix match
@@ -53,8 +53,8 @@ has_automaton (RequiredExtension extension) = true
 has_automaton Basename = true
 has_automaton Path = true
 
--- The strategy is that of the table, and what it says of a glob with these tokens is so for every path and every folder. It has an
--- automaton only if the glob is not direct, and has it run only where the glob needs one. Its key is bytes.
+-- The strategy is the table's, and it is sound for a glob with these tokens, every path and every folder. It has an automaton
+-- only if the glob is not direct, and runs it only where the glob needs it. Its key is bytes.
 pub record IsStrategyOf (o : Options) (ts : Tokens) (strategy : MatchStrategy) : Type 0 where
   pub in_table : strategy_seen strategy ≡ strategy_of_tokens o ts
   pub tells : (path : List ℕ) → StrategyIsSound (strategy_seen strategy) o ts path

@@ -1,4 +1,4 @@
--- Tests of a glob's tokens, of which the definition of direct globs is made.
+-- Tests of a glob's tokens, for the definition of direct globs.
 use Rattle.std.specs.Prelude.{ℕ, Bool, true, false, not, ◌&&◌, ◌||◌, ◌==◌, List, [], ◌∷◌, ◌++◌, Option, Some, None, if◌then◌else◌, encode_utf8}
 use Rattle.std.specs.List.{list_any}
 use Rattle.glob_syntax.specs.declared.options.Options.{Options}
@@ -36,7 +36,7 @@ all_pass test (and_then t ts) = test t && all_pass test ts
 abbrev pub some_all_pass : (Token → Bool) → Tokens → Bool
 some_all_pass test ts = has_tokens ts && all_pass test ts
 
--- the first token passes the one test, and the tokens after it the other
+-- the first token passes the first test, and the tokens after it the second
 abbrev pub first_and_rest : (Token → Bool) → (Tokens → Bool) → Tokens → Bool
 first_and_rest test rest end = false
 first_and_rest test rest (and_then t ts) = test t && rest ts
@@ -45,7 +45,7 @@ first_and_rest test rest (and_then t ts) = test t && rest ts
 abbrev pub are_literals : Tokens → Bool
 are_literals ts = all_pass (is_literal_except []) ts
 
--- literals, perhaps none, and then one last token that passes the test
+-- literals, perhaps none, and then a last token that passes the test
 abbrev pub literals_and_last : (Token → Bool) → Tokens → Bool
 literals_and_last test end = false
 literals_and_last test (and_then t end) = test t
@@ -61,8 +61,7 @@ literal_text (and_then t ts) = literal_text ts
 abbrev pub is_extension : Tokens → Bool
 is_extension ts = first_and_rest is_dot (all_pass (is_literal_except (46 ∷ slash ∷ []))) ts
 
--- The bytes of the last tokens, if these are such an extension. There is only one place where such an extension can begin:
--- at the last literal `.`.
+-- The bytes of the last tokens, if these are such an extension. Such an extension can only begin at the last literal `.`.
 abbrev pub ending : Tokens → Option (List ℕ)
 ending end = None
 ending (and_then t ts) = if is_extension (and_then t ts) then Some (literal_text (and_then t ts)) else ending ts

@@ -1,7 +1,7 @@
 //! The states of a `?` that matches a whole character, by the rows of Table 3-7 of the Unicode Standard.
 //!
-//! Second, third and fourth bytes that may be the same are read by the same states, whatever the first byte is: there are
-//! 16 states, which a table of a row each would exceed.
+//! Second, third and fourth bytes that may be the same are read by the same states, for every first byte: there are 16 states,
+//! which a table of a row each would exceed.
 
 ghost use Rattle.std.specs.Prelude.{◌≡◌, ◌+◌, ◌<◌, ◌∷◌, [], OnOk, IfOk};
 ghost use Rattle.byte_nfa.specs.Runs.{size};

@@ -21,7 +21,7 @@ pub struct Frame {
     pub blank: bool,
     /// Where the branches lead to.
     pub exit: usize,
-    /// Where the later branches that are kept begin, the last one first.
+    /// Where the later branches that are kept begin, the last first.
     pub starts: Vec<usize>,
     /// Whether the later branches are all blank.
     pub rest_blank: bool,
@@ -30,7 +30,7 @@ pub struct Frame {
 impl Frame {
     ghost use Rattle.glob_strategy.specs.inner.Frames.{fresh, led, ended, frame_of, targets_of};
 
-    /// Returns a group of which nothing is built.
+    /// Returns a group with nothing built.
     fn new(alloc: Global, exit: usize) -> Frame
         ensures { frame_of result ≡ fresh exit }
     {

@@ -1,4 +1,4 @@
-//! The states of one token.
+//! The states of a token.
 
 ghost use Rattle.std.specs.Prelude.{◌≡◌, ◌+◌, ◌<◌, ◌≤◌, length, OnOk, IfOk};
 ghost use Rattle.glob_syntax.specs.ClassBytes.{class_has};
@@ -101,8 +101,8 @@ fn add_any(builder: &mut Builder, options: Options, exit: usize) -> Result<usize
     }
 }
 
-/// Adds the states of one token that is no brace or comma, which lead to a state. Returns where they begin. A matching run
-/// begins there, and is at the exit after it.
+/// Adds the states of a token that is no brace or comma, which lead to a state. Returns where they begin. A matching run begins
+/// there, and is at the exit after it.
 pub fn add_token(
     builder: &mut Builder,
     options: Options,

@@ -1,4 +1,4 @@
-//! By what a set decides whether a glob matches.
+//! How a set decides whether a glob matches.
 
 ghost use Rattle.std.specs.Prelude.{◌≡◌, IfOk};
 ghost use Rattle.glob_syntax.specs.FlatTokens.{IsNested};
@@ -21,27 +21,25 @@ use glob_syntax::{Options, Token};
 use key::{ending, literal_text, literal_text_and_slash};
 use std::alloc::{AllocError, Global};
 
-/// By what a set decides whether a glob matches a path.
+/// How a set decides whether a glob matches a path.
 #[derive(Drop)]
 pub enum MatchStrategy {
     /// The glob is excluded: a set leaves it out.
     Excluded,
     /// The glob matches the paths that the key matches. The key's bytes are literals of the glob.
     Key(Key),
-    /// The glob matches only paths whose last component has this extension, and of these the ones whose bytes before the extension
-    /// match [`tokens_before_ending`]. An automaton for these tokens tells which bytes do.
+    /// The glob matches only paths whose last component has this extensionand whose bytes before the extension match
+    /// [`tokens_before_ending`]. An automaton for these tokens matches the bytes.
     RequiredExtension(Vec<u8>),
-    /// The glob matches the paths whose last component matches [`tokens_after_prefix`]. An automaton for these tokens tells
-    /// which components do.
+    /// The glob matches the paths whose last component matches [`tokens_after_prefix`]. An automaton for these tokens matches the
+    /// component.
     Basename,
-    /// An automaton for the glob tells which paths it matches.
+    /// An automaton for the glob matches the path.
     Path,
 }
 
-/// Returns by what a set decides a glob with these tokens: the first strategy that fits. It takes memory for a key or an extension,
-/// and time linear in the tokens.
-///
-/// Returns an error if memory runs out, and no other.
+/// Returns the strategy of a glob with these tokens: the first that fits. It allocates a key or an extension, and time linear in
+/// the tokens.
 pub fn strategy_of(
     alloc: Global,
     options: Options,

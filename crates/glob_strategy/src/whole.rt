@@ -26,7 +26,7 @@ pub fn new_builder(alloc: Global, index_count: usize) -> Builder
     Builder::new(alloc, index_count)
 }
 
-/// Adds the states of the tokens, and returns the one in which they begin.
+/// Adds the states of the tokens, and returns the state where they begin.
 fn add_whole(
     alloc: Global,
     builder: &mut Builder,
@@ -54,11 +54,11 @@ fn add_whole(
     }
 }
 
-/// Adds tokens to an automaton that is being built, as those of a whole glob. They get an index, which a run finds where
+/// Adds tokens to an automaton that is being built, as the tokens of a whole glob. They get an index, which a run finds where
 /// they match the path under the options.
 ///
-/// It takes time and memory linear in the tokens. Returns an error if memory runs out. Then the automaton is for the same
-/// tokens as before, although it may have more states.
+/// It takes time and memory linear in the tokens. Then the automaton is for the same tokens as before, although it may have more
+/// states.
 pub fn add_tokens(
     alloc: Global,
     builder: &mut Builder,

@@ -27,6 +27,6 @@ character_rows =
     ∷ ((0xF4, 0xF4) ∷ (0x80, 0x8F) ∷ (0x80, 0xBF) ∷ (0x80, 0xBF) ∷ [])
     ∷ []
 
--- the bytes are those of one character
+-- the bytes are a character
 abbrev pub is_character : List ℕ → Bool
 is_character b = list_any (λ row. are_between row b) character_rows

@@ -1,9 +1,9 @@
--- Tokens as one flat list, in the order of the text, and the tree that they have.
+-- Tokens as a flat list, in the order of the text, and the tree that they have.
 use Rattle.std.specs.Prelude.{◌≡◌, ℕ, zero, suc, List, [], ◌∷◌}
 use Rattle.glob_syntax.specs.Token.{Token, Tokens, Branches, end, none, branch}
 use Rattle.glob_syntax.specs.Reading.{Levels, in_level, open_level, next_branch, close_level, first_branch}
 
--- a token that is no brace or comma, or one of these
+-- a token, a brace or a comma
 pub data Flat : Type 0 where
   simple : Token → Flat
   -- `{`
@@ -37,7 +37,7 @@ all_levels l = l.0 ∷ l.1
 abbrev pub tree_of : List Flat → Tokens
 tree_of ts = first_branch (levels_of ts).0
 
--- After n open groups, these tokens leave m groups open. None closes a group that is not open, and each comma is in one.
+-- After n open groups, these tokens leave m groups open. None closes a group that is not open, and each comma is in a group.
 abbrev pub Nests : ℕ → List Flat → ℕ → Type 0
 Nests n [] m = n ≡ m
 Nests n (simple t ∷ ts) m = Nests n ts m
@@ -47,7 +47,7 @@ Nests (suc n) (comma ∷ ts) m = Nests (suc n) ts m
 Nests zero (closing ∷ ts) m = ⊥
 Nests (suc n) (closing ∷ ts) m = Nests n ts m
 
--- each group is closed, and each comma is in one
+-- each group is closed, and each comma is in a group
 abbrev pub IsNested : List Flat → Type 0
 IsNested ts = Nests 0 ts 0
 

@@ -18,7 +18,7 @@ is_lasting UnclosedClass = false
 is_lasting UnclosedAlternates = false
 is_lasting DanglingEscape = false
 
--- Without `allow_unclosed_class`, a text with such an error keeps that very error whatever follows the text.
+-- Without `allow_unclosed_class`, a text with such an error keeps that very error with any text after it.
 abbrev pub ParseErrorsStay : Type 0
 ParseErrorsStay = (o : Options) (text more : List ℕ) (f : ParseErrorKind) → o.allow_unclosed_class ≡ false → IsTrue (is_lasting f) → HasParseError o text f → HasParseError o (text ++ more) f
 
@@ -26,6 +26,6 @@ ParseErrorsStay = (o : Options) (text more : List ℕ) (f : ParseErrorKind) → 
 abbrev pub ErrorsAgree : Type 0
 ErrorsAgree = (o : Options) (text : List ℕ) (f : ParseErrorKind) → HasParseError o text f ↔ (option_map (λ e. e.0) (first_error o text) ≡ Some f)
 
--- bytes are those of one character exactly if std writes some Unicode scalar value as these bytes
+-- bytes are a character exactly if std writes some Unicode scalar value as these bytes
 abbrev pub CharactersAreScalars : Type 0
 CharactersAreScalars = (b : List ℕ) → IsTrue (is_character b) ↔ ((c : ℕ) × IsScalar c × (b ≡ encode_utf8 c))

@@ -7,13 +7,13 @@ use Rattle.glob_syntax.specs.declared.parse_error_kind.ParseErrorKind.{ParseErro
 use Rattle.glob_syntax.specs.declared.parse_error_kind.ParseErrorKind.TheVariants.{UnclosedClass, DanglingEscape}
 use Rattle.glob_syntax.specs.Ranges.{ranges, bad_range}
 
--- a part of a text, and what it means for the reading
+-- a part of a text, and its meaning for the reading
 pub data Lexeme : Type 0 where
   -- a plain character: whether it was escaped, and the character
   Char : Bool → ℕ → Lexeme
   -- `?`
   One : Lexeme
-  -- a run of unescaped `*`, all that follow one another, by its length
+  -- a run of unescaped `*`, as long as possible, by its length
   Stars : ℕ → Lexeme
   -- a closed class: whether it is negated, and its ranges in order
   Class : Bool → List (ℕ × ℕ) → Lexeme
@@ -37,8 +37,8 @@ abbrev pub is_negated : List ℕ → Bool
 is_negated [] = false
 is_negated (c ∷ cs) = c == 33 || c == 94
 
--- How many characters the body of a class has, where its first character is the first of these. That one is a member
--- whatever it is; the next `]` closes the class. `None` if no `]` does.
+-- The number of characters of the body of a class that begins with these characters. The first is always a member; the next `]`
+-- closes the class. `None` if no `]` does.
 abbrev pub members : List ℕ → Option ℕ
 members cs = elim (position is_closer (drop 1 cs)) [ None ↦ None | Some n ↦ Some (n + 1) ]
 
@@ -46,15 +46,15 @@ members cs = elim (position is_closer (drop 1 cs)) [ None ↦ None | Some n ↦ 
 abbrev pub class_lexeme : Bool → List ℕ → Lexeme
 class_lexeme negated body = elim (bad_range body) [ None ↦ Class negated (ranges body) | Some f ↦ Bad f ]
 
--- A `[` that no `]` closes, where `rest` is what follows it and, if there is one, its negation. With
--- `allow_unclosed_class` the `[` alone is a plain character, and what follows, the negation too, is split as usual. Without
--- it, it is an error: that of the first bad range of `rest`, read as a body, and `UnclosedClass` if there is none.
+-- A `[` that no `]` closes, where `rest` follows it and its negation, if there is any. With `allow_unclosed_class` the `[` alone
+-- is a plain character, and the text after it, the negation too, is split as usual. Without it, it is an error: the error of the
+-- first bad range of `rest`, read as a body, and `UnclosedClass` if there is none.
 abbrev pub unclosed_lexeme : Options → List ℕ → Lexeme
 unclosed_lexeme o rest = elim o.allow_unclosed_class [ true ↦ Char false 91 | false ↦ elim (bad_range rest) [ None ↦ Bad UnclosedClass | Some f ↦ Bad f ] ]
 
--- ---- the lexeme at one position
+-- ---- the lexeme at a position
 
--- In what follows, a lexeme comes with the number of characters that belong to it after its first one.
+-- In what follows, a lexeme comes with the number of characters that belong to it after its first.
 
 -- the lexeme at a `[` that `skipped` characters of negation and then `cs` follow
 abbrev pub class_at : Options → ℕ → Bool → List ℕ → Lexeme × ℕ
@@ -65,7 +65,7 @@ abbrev pub escape_at : List ℕ → Lexeme × ℕ
 escape_at [] = (Bad DanglingEscape, 0)
 escape_at (c ∷ cs) = (Char true c, 1)
 
--- a run of stars, with so many after the first one
+-- a run of stars, with this number after the first
 abbrev pub star_run : ℕ → Lexeme × ℕ
 star_run more = (Stars (suc more), more)
 
@@ -84,7 +84,7 @@ lexeme_at o c cs =
 
 -- ---- the lexemes of a text
 
--- the lexemes of these characters, the first n of which belong to the lexeme before them
+-- the lexemes of these characters, where the first n belong to the lexeme before them
 unfoldable pub lexemes : Options → ℕ → List ℕ → List Lexeme
 lexemes o n [] = []
 lexemes o (suc n) (c ∷ cs) = lexemes o n cs

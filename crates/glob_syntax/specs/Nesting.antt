@@ -4,8 +4,8 @@ use Rattle.glob_syntax.specs.declared.parse_error_kind.ParseErrorKind.{ParseErro
 use Rattle.glob_syntax.specs.declared.parse_error_kind.ParseErrorKind.TheVariants.{UnopenedAlternates, UnclosedAlternates}
 use Rattle.glob_syntax.specs.Lexemes.{Lexeme, Char, Open, Comma, Close, Bad}
 
--- A lexeme inside so many open groups: how many are open after it, and the lexeme itself, or an error. A `,` outside every
--- group becomes a plain character; every other lexeme stays as it is.
+-- A lexeme inside this number of open groups: the number of open groups after it, and the lexeme itself, or an error. A `,`
+-- outside every group becomes a plain character; every other lexeme stays as it is.
 abbrev pub nested_lexeme : ℕ → Lexeme → Result (ℕ × Lexeme) ParseErrorKind
 nested_lexeme depth (Bad f) = Err f
 nested_lexeme depth Open = Ok (suc depth, Open)
@@ -19,7 +19,7 @@ abbrev pub with_lexeme : Lexeme → Result (List Lexeme) ParseErrorKind → Resu
 with_lexeme m (Ok ms) = Ok (m ∷ ms)
 with_lexeme m (Err f) = Err f
 
--- The lexemes inside so many open groups, or the first error from left to right. A group that is still open at the end of
+-- The lexemes inside this number of open groups, or the first error from left to right. A group that is still open at the end of
 -- the text is an error.
 unfoldable pub nested : ℕ → List Lexeme → Result (List Lexeme) ParseErrorKind
 nested zero [] = Ok []

@@ -1,9 +1,9 @@
 -- The body of a character class, without its brackets and its negation, as ranges.
 --
--- A body is one or more chains and then, perhaps, a last `-`. A chain is a character, which is not `-` except at the very
--- start of the body, followed any number of times by a `-` and one more character. It is the range from its first
--- character to its last one, which may be the same. A last `-` is a member by itself. So `a-c-e` is one range, from `a` to
--- `e`, and `ab-` has the members `a`, `b` and `-`.
+-- A body is one or more chains and then, perhaps, a last `-`. A chain is a character, which is not `-` except at the very start
+-- of the body, followed any number of times by a `-` and another character. It is the range from its first character to its last,
+-- which may be the same. A last `-` is a member by itself. So `a-c-e` is a single range, from `a` to `e`, and `ab-` has the
+-- members `a`, `b` and `-`.
 use Rattle.std.specs.Prelude.{ℕ, List, [], ◌∷◌, Bool, true, false, ◌==◌, nat_lt, Option, Some, None}
 use Rattle.glob_syntax.specs.declared.parse_error_kind.ParseErrorKind.{ParseErrorKind}
 use Rattle.glob_syntax.specs.declared.parse_error_kind.ParseErrorKind.TheVariants.{InvalidRange}
@@ -12,8 +12,8 @@ use Rattle.glob_syntax.specs.declared.parse_error_kind.ParseErrorKind.TheVariant
 abbrev pub is_hyphen : ℕ → Bool
 is_hyphen c = c == 45
 
--- The ranges of what is left of a body inside a chain, which goes from `first` to `last` so far. A `-` goes on with the
--- chain, or is the last member, and any other character begins the next chain. `after_hyphen` is what a `-` goes on with.
+-- The ranges of the rest of a body inside a chain, which goes from `first` to `last` so far. A `-` goes on with the chain, or is
+-- the last member, and any other character begins the next chain. `after_hyphen` is how a `-` goes on.
 abbrev mutual
   pub chain : ℕ → ℕ → List ℕ → List (ℕ × ℕ)
   chain first last [] = (first, last) ∷ []
@@ -28,8 +28,8 @@ unfoldable pub ranges : List ℕ → List (ℕ × ℕ)
 ranges [] = []
 ranges (c ∷ rest) = chain c c rest
 
--- The first bad range of what is left of a body inside a chain that begins with `first`: a character after a `-` that is
--- below `first`.
+-- The first bad range of the rest of a body inside a chain that begins with `first`: a character after a `-` that is below
+-- `first`.
 abbrev mutual
   pub bad_chain : ℕ → List ℕ → Option ParseErrorKind
   bad_chain first [] = None

@@ -1,4 +1,4 @@
--- Reading: a glob's text has tokens under its options, or it has an error, the first one from left to right.
+-- Reading: a glob's text has tokens under its options, or it has an error, the first from left to right.
 use Rattle.std.specs.Prelude.{◌≡◌, ℕ, zero, suc, List, [], ◌∷◌, Bool, true, false, Result, Ok, Err}
 use Rattle.glob_syntax.specs.declared.options.Options.{Options}
 use Rattle.glob_syntax.specs.declared.parse_error_kind.ParseErrorKind.{ParseErrorKind}
@@ -9,13 +9,13 @@ use Rattle.glob_syntax.specs.Stars.{is_run, piece}
 
 -- ---- branches
 
--- What some last lexemes of a glob are read as. They may begin inside groups. The first part has the branches of the
--- innermost open group, from the branch in which the lexemes begin; the list has those of each group around it, from the
--- inside out. The whole glob counts as the only branch of an outermost group.
+-- The reading of some last lexemes of a glob. They may begin inside groups. The first part has the branches of the innermost open
+-- group, from the branch in which the lexemes begin. The list has the branches of each group around it, from the inside out. The
+-- whole glob counts as the only branch of an outermost group.
 abbrev pub Levels : Type 0
 Levels = Branches × List Branches
 
--- tokens, and then the first of these branches; where the braces of the lexemes match, there is one
+-- tokens, and then the first of these branches; where the braces of the lexemes match, there is a first
 abbrev pub in_branch : List Token → Branches → Branches
 in_branch front none = none
 in_branch front (branch ts bs) = branch (before front ts) bs
@@ -24,13 +24,13 @@ in_branch front (branch ts bs) = branch (before front ts) bs
 abbrev pub in_level : List Token → Levels → Levels
 in_level front levels = (in_branch front levels.0, levels.1)
 
--- A `{`, and then these levels: the innermost one is a whole group, which is a token of the branch around it. Where the
--- braces of the lexemes match, there is such a branch.
+-- A `{`, and then these levels: the innermost level is a whole group, which is a token of the branch around it. Where the braces
+-- of the lexemes match, there is such a branch.
 abbrev pub open_level : Levels → Levels
 open_level (bs, []) = (bs, [])
 open_level (bs, outer ∷ more) = (in_branch (Group bs ∷ []) outer, more)
 
--- a `,`, and then these levels: one more branch
+-- a `,`, and then these levels: another branch
 abbrev pub next_branch : Levels → Levels
 next_branch (bs, more) = (branch end bs, more)
 
@@ -38,7 +38,7 @@ next_branch (bs, more) = (branch end bs, more)
 abbrev pub close_level : Levels → Levels
 close_level (bs, more) = (branch end none, bs ∷ more)
 
--- The levels of lexemes, the first n of which belong to the piece before them; `start` says whether a branch starts here.
+-- The levels of lexemes, where the first n belong to the piece before them; `start` says whether a branch starts here.
 unfoldable pub levels : ℕ → Bool → List Lexeme → Levels
 levels n start [] = (branch end none, [])
 levels (suc n) start (m ∷ ms) = levels n start ms
@@ -68,8 +68,8 @@ abbrev pub whole_or_parse_error : Result (List Lexeme) ParseErrorKind → Result
 whole_or_parse_error (Ok ms) = Ok (whole ms)
 whole_or_parse_error (Err f) = Err f
 
--- The tokens of a text, or its first error from left to right. This is a function, so a text has either tokens or an
--- error, and only one of each.
+-- The tokens of a text, or its first error from left to right. This is a function, so a text has either tokens or an error, and
+-- never two of either.
 unfoldable pub reading : Options → List ℕ → Result Tokens ParseErrorKind
 reading o text = whole_or_parse_error (nested zero (lexemes o zero text))
 
@@ -77,6 +77,6 @@ reading o text = whole_or_parse_error (nested zero (lexemes o zero text))
 abbrev pub Reads : Options → List ℕ → Tokens → Type 0
 Reads o text ts = reading o text ≡ Ok ts
 
--- the first error of the text is this one
+-- this is the first error of the text
 abbrev pub HasParseError : Options → List ℕ → ParseErrorKind → Type 0
 HasParseError o text f = reading o text ≡ Err f

@@ -1,6 +1,6 @@
--- Star reading. A branch, of a group or the whole glob, is read by itself, in pieces from its first lexeme on. Each piece has
--- as many lexemes as one of these forms allows. R is a run of exactly two stars. A run ends a branch if no lexeme of that branch
--- follows it; a group after it is such a lexeme.
+-- Star reading. A branch, of a group or the whole glob, is read by itself, in pieces from its first lexeme on. Each piece is as
+-- long as its form allows. R is a run of exactly two stars. A run ends a branch if no lexeme of that branch follows it; a group
+-- after it is such a lexeme.
 --
 --   at the branch's start, one or more pairs (R and an unescaped `/`)
 --   and, where there is one, an R that ends the branch                        RecursivePrefix
@@ -10,8 +10,8 @@
 --   any other run of length k                                                 k times ZeroOrMore
 --   any other lexeme                                                            its own token
 --
--- The `/` that begins a RecursiveSuffix or a RecursiveZeroOrMore may be escaped; the one in a pair may not. (R as the whole
--- glob is in Reading.)
+-- The `/` that begins a RecursiveSuffix or a RecursiveZeroOrMore may be escaped; the `/` in a pair may not. (R as the whole glob
+-- is in Reading.)
 use Rattle.std.specs.Prelude.{ℕ, suc, ◌+◌, ◌-◌, List, [], ◌∷◌, Bool, true, false, ◌&&◌, not, ◌==◌, nat_lt, drop, replicate}
 use Rattle.glob_syntax.specs.Token.{Token, Literal, Any, ZeroOrMore, RecursivePrefix, RecursiveSuffix, RecursiveZeroOrMore}
 use Rattle.glob_syntax.specs.Token as token
@@ -43,13 +43,13 @@ abbrev pub last_run : List Lexeme → Bool
 last_run [] = false
 last_run (m ∷ ms) = is_run m && at_end ms
 
--- how many lexemes at the front make up pairs of a run of two and an unescaped `/`, all that follow one another
+-- the number of lexemes at the front that are pairs of a run of two and an unescaped `/`, as many as possible
 abbrev pub pairs : List Lexeme → ℕ
 pairs [] = 0
 pairs (m ∷ []) = 0
 pairs (m ∷ n ∷ ms) = elim (is_run m && is_slash n) [ true ↦ suc (suc (pairs ms)) | false ↦ 0 ]
 
--- In what follows, the tokens of a piece come with the number of lexemes that belong to it after its first one.
+-- In what follows, the tokens of a piece come with the number of lexemes that belong to it after its first.
 
 -- A piece that begins with a run of n stars. The first flag says whether it is a prefix, whose pairs have k lexemes; the
 -- second, whether a run that ends the branch follows these.

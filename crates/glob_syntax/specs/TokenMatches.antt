@@ -1,4 +1,4 @@
--- Which lists of bytes a token matches. Such a list is a whole path or a piece of one. A byte is a number from 0 to 255.
+-- The lists of bytes that a token matches. Such a list is a whole path or a piece of a path. A byte is a number from 0 to 255.
 use Rattle.std.specs.Prelude.{ℕ, Bool, true, false, not, ◌&&◌, ◌||◌, ◌==◌, List, [], ◌∷◌, map, if◌then◌else◌, encode_utf8}
 use Rattle.std.specs.Char.{to_ascii_lowercase}
 use Rattle.std.specs.List.{list_all}
@@ -20,7 +20,7 @@ abbrev pub is_empty : List ℕ → Bool
 is_empty [] = true
 is_empty (c ∷ cs) = false
 
--- the list has one byte, which passes the test
+-- the list is a single byte, which passes the test
 abbrev pub is_one_byte : (ℕ → Bool) → List ℕ → Bool
 is_one_byte test [] = false
 is_one_byte test (c ∷ []) = test c
@@ -48,7 +48,7 @@ some_cut test (c ∷ cs) = test [] (c ∷ cs) || some_cut (λ front back. test (
 abbrev pub is_wild : Options → ℕ → Bool
 is_wild o c = not (o.literal_separator && (c == slash))
 
--- the bytes are those of one character, but not `/` under `literal_separator`
+-- the bytes are a character, but not `/` under `literal_separator`
 abbrev pub is_wild_character : Options → List ℕ → Bool
 is_wild_character o b = is_character b && not (o.literal_separator && is_one_byte (λ c. c == slash) b)
 
@@ -61,7 +61,7 @@ abbrev mutual
   pub token_matches : Options → Token → List ℕ → Bool
   -- the bytes are the character in UTF-8
   token_matches o (Literal c) b = bytes_eq (compared o b) (compared o (encode_utf8 c))
-  -- under `whole_character` one character, and otherwise one byte
+  -- under `whole_character` a character, and otherwise a byte
   token_matches o Any b = if o.whole_character then is_wild_character o b else is_one_byte (is_wild o) b
   token_matches o ZeroOrMore b = list_all (is_wild o) b
   token_matches o RecursivePrefix b = is_empty b || ends_with_slash b
@@ -78,7 +78,7 @@ abbrev mutual
   some_branch_matches o none b = false
   some_branch_matches o (branch ts bs) b = (is_kept o ts && tokens_match_each o ts b) || some_branch_matches o bs b
 
-  -- the tokens match the bytes one after another: the first token matches the front, and the other tokens match the rest
+  -- the tokens match the bytes in order: the first token matches the front, and the other tokens match the rest
   pub tokens_match_each : Options → Tokens → List ℕ → Bool
   tokens_match_each o end b = is_empty b
   tokens_match_each o (and_then t ts) b = some_cut (λ x y. token_matches o t x && tokens_match_each o ts y) b

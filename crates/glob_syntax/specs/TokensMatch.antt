@@ -14,7 +14,7 @@ abbrev pub is_prefix_alone : Tokens → Bool
 is_prefix_alone (and_then t end) = is_prefix t
 is_prefix_alone _ = false
 
--- The tokens of a whole glob match the path. RecursivePrefix alone, as in `**` and `**/`, matches every path. Other tokens
--- match a path if they match it one after another.
+-- The tokens of a whole glob match the path. RecursivePrefix alone, as in `**` and `**/`, matches every path. Other tokens match
+-- a path if they match it in order.
 abbrev pub tokens_match : Options → Tokens → List ℕ → Bool
 tokens_match o ts path = is_prefix_alone ts || tokens_match_each o ts path

@@ -1,4 +1,4 @@
--- Tokens and results of reading as contracts see them, whatever memory holds them.
+-- Tokens and results of reading as contracts see them.
 use Rattle.std.specs.Prelude.{◌≡◌, List, map, Result, Ok, Err}
 use Rattle.glob_syntax.specs.declared.parse_error_kind.ParseErrorKind.{ParseErrorKind}
 use Rattle.glob_syntax.specs.declared.parse_error_kind.ReadError.{ReadError}
@@ -10,7 +10,7 @@ use Rattle.glob_syntax.specs.FlatTokens.{Flat, simple, opening, comma, closing, 
 
 -- ---- tokens
 
--- a token of the program: a simple token of the definitions, or one of `{`, `,` and `}`
+-- a token of the program: a simple token of the definitions, or `{`, `,` or `}`
 abbrev pub flat_of : Token → Flat
 flat_of (held.Literal c) = simple (tree.Literal c)
 flat_of held.Any = simple tree.Any
@@ -33,12 +33,12 @@ tokens_of ts = tree_of (flats ts)
 
 -- ---- results
 
--- a returned error is that of the reading, unless memory ran out
+-- a returned error is the reading's, unless memory ran out
 abbrev pub ErrorAgrees : {Y : Type 0} → ReadError → Result Y ParseErrorKind → Type 0
 ErrorAgrees errors.Memory read = Unit {0}
 ErrorAgrees (errors.Syntax f) read = read ≡ Err f
 
--- a returned value, seen by `view`, or a returned error is that of the reading, unless memory ran out
+-- a returned value, seen by `view`, or a returned error is the reading's, unless memory ran out
 abbrev pub AgreesWith : {X Y : Type 0} → (X → Y) → Result X ReadError → Result Y ParseErrorKind → Type 0
 AgreesWith view (Ok x) read = read ≡ Ok (view x)
 AgreesWith view (Err e) read = ErrorAgrees e read

@@ -11,7 +11,7 @@ use std::alloc::{AllocError, Global};
 use std::marker::Model;
 use table::{Membership, table_of};
 
-/// Returns the error of the first bad range of a class's body, if it has one.
+/// Returns the error of the first bad range of a class's body, if there is any.
 #[tactic(auto, unfolding(crate::specs::Ranges::bad_range))]
 pub fn bad_range(body: &[char]) -> Option<ParseErrorKind>
     ensures { result ≡ bad_range body.now }
@@ -38,7 +38,7 @@ pub fn bad_range(body: &[char]) -> Option<ParseErrorKind>
     }
 }
 
-/// Returns the ranges of a class's body. Returns an error if memory runs out.
+/// Returns the ranges of a class's body.
 #[tactic(auto, unfolding(crate::specs::Ranges::ranges))]
 pub fn ranges(alloc: Global, body: &[char]) -> Result<Vec<(char, char)>, AllocError>
     ensures { IfOk result (λ v. v.items ≡ ranges body.now) }
@@ -84,12 +84,12 @@ pub struct Class {
     parts: Box<Parts>,
 }
 
-/// What a class has. It is large, and on the heap, since most tokens are no classes.
+/// The parts of a class. They are large, and on the heap, since most tokens are no classes.
 #[derive(Drop)]
 struct Parts {
     negated: bool,
     ranges: Vec<(char, char)>,
-    /// How the ranges contain each byte.
+    /// The membership of each byte.
     table: [Membership; 256],
 }
 
@@ -109,8 +109,6 @@ impl Class {
 
     /// Returns the class of these ranges. This takes a step for each byte that a range contains, and memory for a table of 256
     /// entries.
-    ///
-    /// Returns an error if memory runs out.
     pub fn new(alloc: Global, negated: bool, ranges: Vec<(char, char)>) -> Result<Class, AllocError>
         ensures { IfOk result (λ c. c ≡ record { negated = negated; ranges = ranges.items }) }
     {
@@ -126,7 +124,7 @@ impl Class {
         Ok(Class { parts })
     }
 
-    /// Returns whether the class contains a byte under these options. This reads one entry of its table.
+    /// Returns whether the class contains a byte under these options. This reads an entry of its table.
     pub fn has(&self, options: Options, byte: u8) -> bool
         ensures { result ≡ class_has options self.now.negated self.now.ranges byte }
     {
@@ -153,8 +151,6 @@ impl Class {
     }
 
     /// Returns an equal class with memory of its own.
-    ///
-    /// Returns an error if memory runs out.
     pub fn clone(&self, alloc: Global) -> Result<Class, AllocError>
         ensures { IfOk result (λ c. c ≡ self.now) }
     {

@@ -11,7 +11,7 @@ use crate::options::Options;
 use crate::reading::characters;
 use std::alloc::{AllocError, Global};
 
-/// Returns the text from its first error on, if it has one.
+/// Returns the text from its first error on, if there is any.
 fn from_error<'a>(options: Options, text: &'a [char]) -> Option<&'a [char]>
     ensures value { option_map (λ l. l.now) result
         ≡ option_map (λ e. e.1) (first_error options text.now) }
@@ -50,14 +50,14 @@ fn utf8_len(characters: &[char]) -> usize
     len
 }
 
-/// Returns the offset of the first error of a text, in bytes, if it has one. This is the offset of what the error is about:
+/// Returns the offset of the first error of a text, in bytes, if there is any. This is the offset of:
 ///
 /// - the `[` of a class that no `]` closes, or of the class of a range that goes down;
 /// - the `}` that closes no group;
 /// - the `\` at the end of the text;
 /// - the outermost `{` that is still open at the end of the text.
 ///
-/// This takes time and memory linear in the length of the text. Returns an error if memory runs out.
+/// This takes time and memory linear in the length of the text.
 pub fn error_offset(
     alloc: Global,
     options: Options,

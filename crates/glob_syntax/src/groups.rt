@@ -21,8 +21,7 @@ fn starts_branch(lexeme: Lexeme<'_>) -> bool
     matches!(lexeme, Lexeme::Open | Lexeme::Comma)
 }
 
-/// Pushes the tokens of the piece that begins at this position. Returns how many lexemes belong to the piece after its first
-/// one.
+/// Pushes the tokens of the piece that begins at this position. Returns how many lexemes belong to the piece after its first.
 fn push_lexeme(
     alloc: Global,
     tokens: &mut Vec<Token>,

@@ -2,8 +2,8 @@
 
 ghost use Rattle.glob_syntax.specs.Laws.{CharactersAreScalars, ErrorsAgree, ParseErrorsStay};
 
-/// Without `allow_unclosed_class`, a text whose error is `InvalidRange` or `UnopenedAlternates` keeps that very error
-/// whatever text follows it.
+/// Without `allow_unclosed_class`, a text whose error is `InvalidRange` or `UnopenedAlternates` keeps that very error with any
+/// text after it.
 pub fn parse_errors_stay()
     ensures { ParseErrorsStay }
 {}
@@ -13,7 +13,7 @@ pub fn errors_agree()
     ensures { ErrorsAgree }
 {}
 
-/// Bytes are those of one character exactly if std writes some Unicode scalar value as these bytes.
+/// Bytes are a character exactly if std writes some Unicode scalar value as these bytes.
 pub fn characters_are_scalars()
     ensures { CharactersAreScalars }
 {}

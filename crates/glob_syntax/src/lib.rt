@@ -1,8 +1,8 @@
 //! Reads globs: from a text and options to tokens, or to the first error; and defines what tokens match.
 //!
-//! `reading` splits a text into `lexemes`, which tell special characters from plain ones. Then `stars` reads runs of `*`, and
-//! `groups` reads braces. `class` reads the bodies of character classes. No code here matches
-//! paths: the definitions of what tokens match are in `specs`, and the crates above match as these say.
+//! `reading` splits a text into `lexemes`, which separate special characters from plain characters. Then `stars` reads runs of
+//! `*`, and `groups` reads braces. `class` reads the bodies of character classes. No code here matches paths: the definitions of
+//! what tokens match are in `specs`, and the crates above match as these say.
 #![tactic(auto)]
 
 mod class;

@@ -1,4 +1,4 @@
-//! Options that say how a glob is read and what it matches.
+//! The options of a glob: how it is read, and which paths it matches.
 
 /// The six options of a glob. Each glob has its own.
 #[derive(Clone, Copy, Debug, PartialEq, Eq, Hash)]
@@ -9,12 +9,12 @@ pub struct Options {
     pub literal_separator: bool,
     /// Whether a `\` outside classes makes the next character plain. On by default; the other options are off.
     pub backslash_escape: bool,
-    /// Whether the blank branches of a group are kept, as the second one of `{a,}`. A branch is blank if it has only
+    /// Whether the blank branches of a group are kept, such as the second branch of `{a,}`. A branch is blank if it has only
     /// groups whose branches are all blank.
     pub empty_alternates: bool,
     /// Whether a `[` that no `]` closes is a plain character. By default it is an error.
     pub allow_unclosed_class: bool,
-    /// Whether `?` matches a whole character in UTF-8. By default it matches one byte. What else matches bytes still does.
+    /// Whether `?` matches a whole character in UTF-8. By default it matches a byte. Everything else matches bytes in both cases.
     pub whole_character: bool,
 }
 

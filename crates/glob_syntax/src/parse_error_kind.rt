@@ -5,7 +5,7 @@ ghost use Rattle.glob_syntax.specs.declared.parse_error_kind.ReadError.TheVarian
 
 use std::alloc::{AllocError, AllocFailed};
 
-/// An error in a glob's text. A text has the first one from left to right.
+/// An error in a glob's text. The error of a text is the first from the left.
 #[derive(Clone, Copy, Debug, PartialEq, Eq)]
 pub enum ParseErrorKind {
     /// No `]` closes a class.

@@ -16,7 +16,7 @@ use crate::parse_error_kind::ReadError;
 use crate::token::Token;
 use std::alloc::{AllocError, Global};
 
-/// Returns the characters of a text. Returns an error if memory runs out.
+/// Returns the characters of a text.
 pub fn characters(alloc: Global, text: &str) -> Result<Vec<char>, AllocError>
     ensures { IfOk result (λ v. v.items ≡ chars text.now) }
 {
@@ -25,9 +25,9 @@ pub fn characters(alloc: Global, text: &str) -> Result<Vec<char>, AllocError>
 
 /// Returns the tokens of a glob's text.
 ///
-/// This takes time and memory linear in the length of the text. One pass splits the text into lexemes, and another makes
-/// tokens of the lexemes. The first pass looks ahead for the `]` of each class; once there is none, it never looks again. Each
-/// class has a table of 256 entries, filled in a step for each byte that a range contains.
+/// This takes time and memory linear in the length of the text. A first pass splits the text into lexemes, and another makes
+/// tokens of the lexemes. The first pass looks ahead for the `]` of each class; once there is none, it stops looking. Each class
+/// has a table of 256 entries, filled in a step for each byte that a range contains.
 ///
 /// # Errors
 ///

@@ -1,4 +1,4 @@
--- Equality of errors. Globs need no definition: two are equal if they have one `GlobValue`.
+-- Equality of errors. Globs need no definition: two are equal if they have the same `GlobValue`.
 use Rattle.std.specs.Prelude.{◌≡◌, ℕ, Option, None, string_bytes}
 use Rattle.glob_text.specs.declared.error.kind.ErrorKind.{ErrorKind}
 use Rattle.glob_text.specs.declared.error.kind.ErrorKind.TheVariants as kinds
@@ -28,7 +28,7 @@ SameValueError e f = (e.index ≡ f.index) × SameValueKind e.kind f.kind
 
 -- ---- copies, which are equal and also have the same offsets
 
--- the offset of the error that a kind of errors of values holds, if it holds one
+-- the offset of the error that a kind of errors of values holds, if any
 abbrev pub offset_in : ValueErrorKind → Option ℕ
 offset_in (causes.Glob e) = e.offset
 offset_in _ = None

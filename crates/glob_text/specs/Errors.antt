@@ -10,7 +10,7 @@ use Rattle.glob_syntax.specs.Reading.{HasParseError, reading}
 use Rattle.glob_syntax.specs.ErrorOffset.{error_offset}
 use Rattle.std.specs.Str.{chars}
 
--- An error as contracts see it: the rejected text, if it holds one, its kind, and where in the text it stands, in bytes.
+-- An error as contracts see it: the rejected text, if any, its kind, and its offset in the text, in bytes.
 pub record ErrorValue : Type 0 where
   pub glob : Option (List ℕ)
   pub kind : ErrorKind
@@ -28,7 +28,7 @@ kind_of faults.UnopenedAlternates = kinds.UnopenedAlternates
 kind_of faults.UnclosedAlternates = kinds.UnclosedAlternates
 kind_of faults.DanglingEscape = kinds.DanglingEscape
 
--- The error of a text whose first fault under these options is this one. It holds the text, and where the fault stands.
+-- The error of a text with this first fault under these options. It holds the text and the offset of the fault.
 abbrev pub parse_error : Options → List ℕ → ParseErrorKind → ErrorValue
 parse_error o text f = record { glob = Some text; kind = kind_of f; offset = error_offset o (chars text) }
 
@@ -36,14 +36,13 @@ parse_error o text f = record { glob = Some text; kind = kind_of f; offset = err
 abbrev pub glob_or_parse_error : GlobValue → Result GlobValue ErrorValue
 glob_or_parse_error g = elim (reading g.options (chars g.text)) [ Ok ts ↦ Ok g | Err f ↦ Err (parse_error g.options g.text f) ]
 
--- The error is one that reading the text under these options may return: that of the text's first fault, or that memory ran
--- out.
+-- Reading the text under these options may return this error: the error of the text's first fault, or that memory ran out.
 abbrev pub IsParseErrorOf : Options → List ℕ → ErrorValue → Type 0
 IsParseErrorOf o text e = (e ≡ out_of_memory) ⊎ ((f : ParseErrorKind) × HasParseError o (chars text) f × (e ≡ parse_error o text f))
 
 -- ---- displayed texts
 
--- what a kind displays
+-- the displayed text of a kind
 abbrev pub kind_text : ErrorKind → List ℕ
 kind_text kinds.UnclosedClass = codes "unclosed character class; missing ']'"
 kind_text (kinds.InvalidRange start end) = codes "invalid range; '" ++ encode_utf8 start ++ codes "' > '" ++ encode_utf8 end ++ codes "'"

@@ -1,4 +1,4 @@
--- Escaping: the text of a glob that matches one path.
+-- Escaping: the text of a glob that matches a single path.
 use Rattle.std.specs.Prelude.{◌≡◌, ◌↔◌, ℕ, ◌==◌, List, [], ◌∷◌, Bool, false, ◌||◌, not, if◌then◌else◌, IsTrue, encode_utf8_all}
 use Rattle.std.specs.List.{flat_map, list_all}
 use Rattle.std.specs.Str.{chars}
@@ -13,7 +13,7 @@ is_special c = (c == 63) || ((c == 42) || ((c == 91) || ((c == 93) || ((c == 123
 abbrev pub escaped_char : ℕ → List ℕ
 escaped_char c = if is_special c then 91 ∷ c ∷ 93 ∷ [] else c ∷ []
 
--- the characters, each escaped, one after another
+-- the characters, each escaped, in order
 abbrev pub escaped_chars : List ℕ → List ℕ
 escaped_chars cs = flat_map escaped_char cs
 
@@ -31,6 +31,6 @@ has_no_backslash text = list_all (λ c. not (c == 92)) (chars text)
 abbrev pub plain_options : Options
 plain_options = record default_options { backslash_escape = false }
 
--- The glob has a reading, and matches this path and no other.
+-- The glob has a reading, and matches only this path.
 abbrev pub MeansOnly : GlobValue → List ℕ → Type 0
 MeansOnly g path = IsRead g × ((b : List ℕ) → IsTrue (glob_matches g b) ↔ (b ≡ path))

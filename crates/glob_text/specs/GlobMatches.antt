@@ -11,7 +11,7 @@ pub record GlobValue : Type 0 where
   pub text : List ℕ
   pub options : Options
 
--- these two as one value
+-- these two as a value
 abbrev pub glob_value : List ℕ → Options → GlobValue
 glob_value text options = record { text = text; options = options }
 
@@ -30,7 +30,7 @@ default_options = record {
 abbrev pub default_glob : List ℕ → GlobValue
 default_glob text = glob_value text default_options
 
--- The text has a reading under the options. That of every `Glob` has one.
+-- The text has a reading under the options, as the text of every `Glob` has.
 abbrev pub IsRead : GlobValue → Type 0
 IsRead g = IsOk (reading g.options (chars g.text))
 
@@ -38,6 +38,6 @@ IsRead g = IsOk (reading g.options (chars g.text))
 unfoldable pub tokens_of_glob : GlobValue → Tokens
 tokens_of_glob g = elim (reading g.options (chars g.text)) [ Ok ts ↦ ts | Err f ↦ end ]
 
--- The glob matches the path. This says something only of a text that has a reading, and that of every `Glob` has one.
+-- The glob matches the path. This has a meaning only if the text has a reading, as the text of every `Glob` has.
 unfoldable pub glob_matches : GlobValue → List ℕ → Bool
 glob_matches g path = tokens_match g.options (tokens_of_glob g) path

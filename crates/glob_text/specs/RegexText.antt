@@ -22,7 +22,7 @@ byte_text c =
     if nat_lt c 128 then (if is_escaped c then codes "\\" ++ c ∷ [] else c ∷ [])
     else codes "\\x" ++ hexadecimal_digit (c / 16) ∷ hexadecimal_digit (c % 16) ∷ []
 
--- bytes, one after another
+-- bytes, in order
 abbrev pub bytes_text : List ℕ → List ℕ
 bytes_text [] = []
 bytes_text (c ∷ cs) = byte_text c ++ bytes_text cs
@@ -33,11 +33,11 @@ char_text c = bytes_text (encode_utf8 c)
 
 -- ---- classes
 
--- a range: its first and last character with a `-` between them, or one character if they are equal
+-- a range: its first and last character with a `-` between them, or a single character if they are equal
 abbrev pub range_text : ℕ × ℕ → List ℕ
 range_text (x, y) = if x == y then char_text x else char_text x ++ codes "-" ++ char_text y
 
--- ranges, one after another
+-- ranges, in order
 abbrev pub ranges_text : List (ℕ × ℕ) → List ℕ
 ranges_text [] = []
 ranges_text (r ∷ rs) = range_text r ++ ranges_text rs
@@ -82,14 +82,14 @@ longer_texts =
     ∷ codes "\\xf4[\\x80-\\x8f][\\x80-\\xbf][\\x80-\\xbf]"
     ∷ []
 
--- what `?` matches: one character under `whole_character`, and otherwise one byte
+-- the matches of `?`: a character under `whole_character`, and otherwise a byte
 abbrev pub any_text : Options → List ℕ
 any_text o = if o.whole_character then group_text (ascii_text o ∷ longer_texts) else (if o.literal_separator then codes "[^/]" else codes ".")
 
 -- ---- tokens
 
 abbrev mutual
-  -- one token
+  -- a token
   pub token_text : Options → Token → List ℕ
   token_text o (Literal c) = char_text c
   token_text o Any = any_text o
@@ -100,7 +100,7 @@ abbrev mutual
   token_text o (Class negated rs) = class_text negated rs
   token_text o (Group bs) = group_text (kept_texts o bs)
 
-  -- tokens, one after another
+  -- tokens, in order
   pub tokens_text : Options → Tokens → List ℕ
   tokens_text o end = []
   tokens_text o (and_then t ts) = token_text o t ++ tokens_text o ts

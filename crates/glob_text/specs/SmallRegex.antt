@@ -6,7 +6,7 @@ use Rattle.std.specs.Char.{to_ascii_lowercase, to_ascii_uppercase}
 
 -- ---- trees
 
--- an entry of a class: one byte, or the bytes from one to another
+-- an entry of a class: a byte, or the bytes from a byte to another
 pub data Entry : Type 0 where
   single : ℕ → Entry
   span : ℕ → ℕ → Entry
@@ -15,7 +15,7 @@ mutual
   pub data Atom : Type 0 where
     -- `.`
     any_byte : Atom
-    -- one byte
+    -- a byte
     byte : ℕ → Atom
     -- `[..]`: whether it is negated, and its entries
     class_of : Bool → List Entry → Atom
@@ -30,7 +30,7 @@ mutual
     -- `?`
     optional : Atom → Item
 
-  -- items, one after another
+  -- items, in order
   pub data Row : Type 0 where
     no_item : Row
     item : Item → Row → Row
@@ -45,7 +45,7 @@ pub data Expression : Type 0 where
 
 -- ---- the texts of a tree
 --
--- A text is a list of bytes, all of them ASCII characters. Most parts of a tree have one text. A byte may have two.
+-- A text is a list of bytes, all of them ASCII characters. Most parts of a tree have a single text. A byte may have two.
 
 -- the number is in the list
 abbrev pub is_among : ℕ → List ℕ → Bool
@@ -64,8 +64,8 @@ is_hexadecimal c = (nat_le 48 c && nat_le c 57) || (nat_le 97 c && nat_le c 102)
 abbrev pub hexadecimal_value : ℕ → ℕ
 hexadecimal_value c = if nat_le c 57 then c - 48 else c - 87
 
--- A byte is written in one of these ways: as the ASCII character that it is, if that is not special; as a special character
--- after a backslash; or, whatever byte it is, as `\x` and two digits.
+-- A byte has these spellings: as an ASCII character, if that is not special; as a special character after a backslash; and, for
+-- every byte, as `\x` and two digits.
 abbrev pub SpellsByte : ℕ → List ℕ → Type 0
 SpellsByte c t =
     ((t ≡ c ∷ []) × (c < 128) × IsFalse (is_special c))
@@ -77,7 +77,7 @@ abbrev pub SpellsEntry : Entry → List ℕ → Type 0
 SpellsEntry (single c) t = SpellsByte c t
 SpellsEntry (span c d) t = (u v : List ℕ) × (t ≡ u ++ codes "-" ++ v) × SpellsByte c u × SpellsByte d v
 
--- entries are written one after another
+-- entries are written in order
 abbrev pub SpellsEntries : List Entry → List ℕ → Type 0
 SpellsEntries [] t = t ≡ []
 SpellsEntries (e ∷ es) t = (u v : List ℕ) × (t ≡ u ++ v) × SpellsEntry e u × SpellsEntries es v
@@ -98,7 +98,7 @@ abbrev mutual
   SpellsItem (repeated a) t = (u : List ℕ) × (t ≡ u ++ codes "*") × SpellsAtom a u
   SpellsItem (optional a) t = (u : List ℕ) × (t ≡ u ++ codes "?") × SpellsAtom a u
 
-  -- the items of a row are written one after another; a row may have none
+  -- the items of a row are written in order; a row may have none
   pub SpellsRow : Row → List ℕ → Type 0
   SpellsRow no_item t = t ≡ []
   SpellsRow (item i r) t = (u v : List ℕ) × (t ≡ u ++ v) × SpellsItem i u × SpellsRow r v
@@ -112,7 +112,7 @@ abbrev mutual
 abbrev pub Spells : Expression → List ℕ → Type 0
 Spells (expression fold r) t = (u : List ℕ) × (t ≡ codes "(?-u)" ++ (if fold then codes "(?i)" else []) ++ codes "^" ++ u ++ codes "$") × SpellsRow r u
 
--- ---- what a tree denotes
+-- ---- the meaning of a tree
 
 -- The byte `c` is x. If letters are equal in both cases, it may also be the other case of x.
 abbrev pub is_same : Bool → ℕ → ℕ → Bool
@@ -146,11 +146,11 @@ pub data Repeats (P : List ℕ → Type 0) : List ℕ → Type 0 where
 abbrev mutual
   -- an atom
   pub DenotesAtom : Bool → Atom → List ℕ → Type 0
-  -- any one byte, also a line feed
+  -- any byte, also a line feed
   DenotesAtom fold any_byte b = (c : ℕ) × (b ≡ c ∷ [])
   DenotesAtom fold (byte x) b = (c : ℕ) × (b ≡ c ∷ []) × IsTrue (is_same fold x c)
   DenotesAtom fold (class_of negated es) b = (c : ℕ) × (b ≡ c ∷ []) × IsTrue (class_of_has fold negated es c)
-  -- a group denotes what one of its rows denotes
+  -- a group denotes everything that some row of it denotes
   DenotesAtom fold (group_of r rs) b = DenotesRow fold r b ⊎ DenotesSome fold rs b
 
   -- an item: its atom once, any number of times, or at most once
@@ -164,12 +164,12 @@ abbrev mutual
   DenotesRow fold no_item b = b ≡ []
   DenotesRow fold (item i r) b = (x y : List ℕ) × (b ≡ x ++ y) × DenotesItem fold i x × DenotesRow fold r y
 
-  -- one of these rows
+  -- some row of these
   pub DenotesSome : Bool → Rows → List ℕ → Type 0
   DenotesSome fold no_row b = ⊥
   DenotesSome fold (row r rs) b = DenotesRow fold r b ⊎ DenotesSome fold rs b
 
--- the list is one of bytes
+-- a list of bytes
 abbrev pub AreBytes : List ℕ → Type 0
 AreBytes b = All (λ c. c < 256) b
 

@@ -19,11 +19,11 @@ of_kind kind = record { index = None; kind = kind }
 abbrev pub not_text : ValueErrorValue
 not_text = of_kind kinds.NotText
 
--- the error of an object that has a key other than `glob` and those of options
+-- the error of an object that has a key other than `glob` and the options' keys
 abbrev pub unknown_key : ValueErrorValue
 unknown_key = of_kind kinds.UnknownKey
 
--- the error of an object in which an option is neither true nor false
+-- the error of an object where an option is neither true nor false
 abbrev pub not_bool : ValueErrorValue
 not_bool = of_kind kinds.NotBool
 
@@ -35,13 +35,13 @@ not_array = of_kind kinds.NotArray
 abbrev pub value_out_of_memory : ValueErrorValue
 value_out_of_memory = of_kind (kinds.Glob out_of_memory)
 
--- The error is one that a call with this result may return: that of the result, or that memory ran out.
+-- A call with this result may return this error: the result's error, or that memory ran out.
 abbrev pub IsValueErrorOf : {X : Type 0} → Result X ValueErrorValue → ValueErrorValue → Type 0
 IsValueErrorOf outcome e = (e ≡ value_out_of_memory) ⊎ (outcome ≡ Err e)
 
 -- ---- elements
 
--- the error as one of the element at this index
+-- the error, of the element at this index
 abbrev pub at_index : ℕ → ValueErrorValue → ValueErrorValue
 at_index i e = record { index = Some i; kind = e.kind }
 
@@ -61,7 +61,7 @@ of_element i e = if is_memory e.kind then e else at_index i e
 
 -- ---- displayed texts
 
--- what a kind displays
+-- the displayed text of a kind
 abbrev pub value_kind_text : ValueErrorKind → List ℕ
 value_kind_text kinds.NotText = codes "expected a glob pattern"
 value_kind_text kinds.UnknownKey = codes "unknown key in a glob object"

@@ -17,7 +17,7 @@ use std::marker::Model;
 
 /// An error of reading a glob, or of any other call that runs out of memory.
 ///
-/// The error of a rejected text holds that text. If memory runs out, also for the copy of that text, the kind is
+/// The error of a rejected text holds that text. If memory runs out, even for the copy of that text, the kind is
 /// [`ErrorKind::OutOfMemory`] and the error holds no text.
 ///
 /// ```rust
@@ -49,8 +49,8 @@ impl Model for Error {
 }
 
 impl Error {
-    /// Returns the error of a text whose first fault under these options is this one. This reads the text once more, for the
-    /// place of the fault. If memory runs out, also for the copy of the text, the error says so.
+    /// Returns the error of a text with this first fault under these options. This reads the text once more, for the place of the
+    /// fault. If there is no memory for a copy of the text, the kind is [`ErrorKind::OutOfMemory`].
     pub(crate) fn parse_error(
         alloc: Global,
         options: Options,
@@ -101,8 +101,7 @@ impl Error {
         &self.kind
     }
 
-    /// Returns the offset in the rejected text at which its first error stands, in bytes, or `None` if memory ran out. This is
-    /// the offset of
+    /// Returns the offset in the rejected text of its first error, in bytes, or `None` if memory ran out. The offset is that of:
     ///
     /// - the `[` of the class, for [`ErrorKind::UnclosedClass`] and [`ErrorKind::InvalidRange`];
     /// - the `}`, for [`ErrorKind::UnopenedAlternates`];
@@ -121,7 +120,7 @@ impl Error {
         self.offset
     }
 
-    /// Returns an equal error with the same offset, or an error if memory runs out.
+    /// Returns an equal error with the same offset.
     pub fn clone(&self) -> Result<Error, Error>
         ensures ok { IfOk result (λ e. SameError e self.now) }
         ensures offset { IfOk result (λ e. e.offset ≡ self.now.offset) }

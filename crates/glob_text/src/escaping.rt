@@ -1,4 +1,4 @@
-//! Escaping: globs that match one text.
+//! Escaping: globs that match a single text.
 
 ghost use Rattle.std.specs.Prelude.{◌≡◌, ◌++◌, IfOk, IsOkUnless, OnOk, IsTrue, string_bytes, encode_utf8_all};
 ghost use Rattle.glob_text.specs.Errors.{out_of_memory};
@@ -10,11 +10,11 @@ use std::alloc::{AllocError, Global};
 
 /// Returns the text with each of `?`, `*`, `[`, `]`, `{` and `}` in brackets: `a*b` becomes `a[*]b`.
 ///
-/// The result is a glob that matches only the text, if the glob's options are the default ones and the text contains no
-/// `\`. A `\` is not changed, and under the default options it escapes the next character. With `backslash_escape` off and
-/// the other default options, the result matches only the text, whatever the text is.
+/// The result is a glob that matches only the text, if the glob's options are the default options and the text contains no `\`. A
+/// `\` is not changed, and under the default options it escapes the next character. With `backslash_escape` off and the other
+/// default options, the result matches only the text, for every text.
 ///
-/// The time is linear in the length of the text. Returns an error if memory runs out.
+/// The time is linear in the length of the text.
 ///
 /// ```rust
 /// use globset::{Glob, escape};
@@ -54,7 +54,7 @@ fn push_escaped(out: &mut String, c: char) -> Result<(), AllocError>
     }
 }
 
-/// Returns whether a character is one that `escape` puts in brackets. `\`, `,` and `!` are not.
+/// Returns whether a character is put in brackets by `escape`. `\`, `,` and `!` are not.
 fn is_special(c: char) -> bool
     ensures { result ≡ is_special c }
 {

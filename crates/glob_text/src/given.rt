@@ -1,4 +1,4 @@
-//! Lists of globs, which contracts speak of and which take no memory.
+//! Lists of globs, for contracts: they have no size.
 
 use glob_syntax::Options;
 use std::marker::Model;
@@ -9,7 +9,7 @@ use std::snapshot::Snapshot;
 enum Given {
     /// The list of no globs.
     Nothing,
-    /// A list, and one more glob at the end: its text and its options.
+    /// A list, and another glob at the end: its text and its options.
     After(Snapshot<Given>, Snapshot<String>, Options),
     /// An equal list, by a snapshot of its snapshot.
     As(Snapshot<Snapshot<Given>>),
@@ -54,7 +54,7 @@ impl GivenGlobs {
         }
     }
 
-    /// Returns this list with one more glob at the end. Its text is not copied.
+    /// Returns this list with another glob at the end. Its text is not copied.
     pub fn and(self, text: &String, options: Options) -> GivenGlobs
         ensures { result ≡ self ++ glob_value (string_bytes text.now) options ∷ [] }
     {

@@ -1,7 +1,7 @@
-//! What a glob's text stands for without matching: its tokens or its error, and a regular expression; and errors of reading values.
-//! A glob is its text and its options here, and a list of globs is for contracts alone ([`GivenGlobs`]).
+//! A glob's text without matching: its tokens or its error, and a regular expression; and errors of reading values. A glob is its
+//! text and its options here, and a list of globs is for contracts alone ([`GivenGlobs`]).
 //!
-//! This crate knows what a glob means, and runs no automaton.
+//! This crate defines globs, and runs no automaton.
 #![tactic(auto)]
 
 mod error;

@@ -16,8 +16,8 @@ use std::alloc::Global;
 
 /// Returns the tokens of a glob's text, in time and memory linear in the length of the text.
 ///
-/// Returns an error if the text is not a glob, or if memory runs out. The error of a text holds the text, and its kind and its
-/// offset are those of the first error in the text.
+/// Fails if the text is not a glob, or if memory runs out. The error of a text holds the text, and the kind and the offset of the
+/// first error in it.
 pub fn tokens_of_text(alloc: Global, options: Options, text: &str) -> Result<Vec<Token>, Error>
     ensures read { IfOk result (λ v. reading options (chars text.now) ≡ Ok (tokens_of v.items)) }
     ensures nested { IfOk result (λ v. IsNested (flats v.items)) }

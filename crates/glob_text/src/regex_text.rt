@@ -13,7 +13,7 @@ use std::alloc::{AllocError, Global};
 /// The most bytes of what stands around the text of the tokens: the flags, `^` and `$`.
 const AROUND: usize = 11;
 
-/// Returns the text of a glob's tokens, in time linear in the tokens. Returns an error if memory runs out.
+/// Returns the text of a glob's tokens, in time linear in the tokens.
 pub fn regex_of_tokens(
     alloc: Global,
     options: Options,
@@ -69,11 +69,11 @@ struct OpenGroup {
     len: usize,
     /// Whether no branch of the group has been written.
     first: bool,
-    /// Whether the branch around the group is kept by what it has before the group.
+    /// Whether the branch around the group is kept by its tokens before the group.
     outer_kept: bool,
 }
 
-/// Pushes the texts of the tokens, one after another.
+/// Pushes the texts of the tokens, in order.
 fn push_tokens(
     alloc: Global,
     text: &mut String,
@@ -134,7 +134,7 @@ fn push_each(
     Ok(())
 }
 
-/// Pushes the text before a branch of a group, the first that is written or another, and adds the group to the open ones.
+/// Pushes the text before a branch of a group, the first or a later one that is written, and adds the group to the open groups.
 fn start_branch(
     text: &mut String,
     groups: &mut Vec<OpenGroup>,
@@ -172,7 +172,7 @@ fn end_branch(text: &mut String, options: Options, group: OpenGroup, kept: bool)
     group.first
 }
 
-/// Pushes the text after the last branch of a group, if one was written. Returns whether the branch around it is kept so far.
+/// Pushes the text after the last branch of a group, if any was written. Returns whether the branch around it is kept so far.
 fn end_group(text: &mut String, group: OpenGroup, none: bool) -> Result<bool, AllocError>
     ensures text { OnOk result (string_bytes text.new ≡ string_bytes text.old ++ closer none) }
     ensures kept { IfOk result (λ kept. kept ≡ (group.outer_kept || not none)) }
@@ -202,7 +202,7 @@ fn push_simple(text: &mut String, options: Options, token: &Token) -> Result<(),
     }
 }
 
-/// The characters of two bytes or more, after those of one byte.
+/// The characters of two bytes or more, after the characters of a single byte.
 const LONGER_CHARACTERS: &str = "|[\\xc2-\\xdf][\\x80-\\xbf]\
     |\\xe0[\\xa0-\\xbf][\\x80-\\xbf]\
     |[\\xe1-\\xec][\\x80-\\xbf][\\x80-\\xbf]\

@@ -27,9 +27,9 @@ use std::marker::Model;
 pub enum ValueErrorKind {
     /// It is neither a text nor an object with a text under `glob`.
     NotText,
-    /// It is an object with a key other than `glob` and those of options.
+    /// It is an object with a key other than `glob` and the options' keys.
     UnknownKey,
-    /// It is an object in which an option is neither true nor false.
+    /// It is an object where an option is neither true nor false.
     NotBool,
     /// It is not an array.
     NotArray,
@@ -104,8 +104,8 @@ impl fmt::Display for ValueErrorKind {
 
 /// An error of reading a glob, or a set of globs, from a JSON value.
 ///
-/// The error of an element of an array holds the element's index. If memory runs out, the kind is
-/// [`ValueErrorKind::Glob`] with an error of the kind [`ErrorKind::OutOfMemory`], and the error holds no index.
+/// The error of an element of an array holds the element's index. When out of memory, the kind is [`ValueErrorKind::Glob`] with
+/// an error of the kind [`ErrorKind::OutOfMemory`], and the error holds no index.
 ///
 /// ```rust
 /// use globset::GlobSet;

@@ -12,6 +12,6 @@ use Rattle.globset.specs.contracts.searcher.Searcher as Searcher
 abbrev pub LendsItself : {E : Type 0} → MutBor BuilderValue → Result (MutBor BuilderValue) E → Fml
 LendsItself s r = LendsIfOk GlobSetBuilder.the_row GlobSetBuilder.the_row s r (λ w. w) s.now
 
--- `s` is the searcher as it was passed, and `r` the indexes that it returned. It keeps its set, and these are what it found last.
+-- `s` is the searcher as it was passed, and `r` the indexes that it returned. It keeps its set, and these are its last result.
 abbrev pub LendsFound : MutBor SearcherValue → Bor (List ℕ) → Fml
 LendsFound s r = Rests Searcher.the_row s (λ new. (new.set ≡ s.now.set) × (new.found ≡ r.now))

@@ -16,7 +16,7 @@ abbrev pub globs_from : ℕ → Items → Result (List GlobValue) ValueErrorValu
 globs_from i no_items = Ok []
 globs_from i (item value values) = elim (glob_of_value value) [ Ok g ↦ ahead_of g (globs_from (i + 1) values) | Err e ↦ Err (at_index i e) ]
 
--- The globs of a value: of an array, those of its elements. Any other value is an error without an index.
+-- The globs of a value: of an array, the globs of its elements. Any other value is an error without an index.
 abbrev pub globs_of_value : Data → Result (List GlobValue) ValueErrorValue
 globs_of_value (array values) = globs_from 0 values
 globs_of_value null = Err not_array

@@ -8,7 +8,7 @@ pub use Rattle.set_matcher.specs.SetValue.{SetValue, set_globs, set_states}
 abbrev pub BuilderValue : Type 0
 BuilderValue = List GlobValue
 
--- the globs of a builder, in the order in which they were added
+-- the globs of a builder, in the order of the additions
 abbrev pub builder_globs : BuilderValue → List GlobValue
 builder_globs b = b
 

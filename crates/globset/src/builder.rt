@@ -9,6 +9,10 @@ use std::marker::Model;
 ///
 /// Contracts see the list of the globs. They do not see the limit of [`GlobSetBuilder::dfa_size_limit`], which changes no answer.
 ///
+/// # Errors
+///
+/// Calls that return a [`Result`] fail only if memory runs out. The builder then has the globs that it had before the call.
+///
 /// ```rust
 /// use globset::{Glob, GlobSetBuilder};
 ///
@@ -55,15 +59,15 @@ impl GlobSetBuilder {
     /// [`DEFAULT_DFA_SIZE_LIMIT`], 16 MiB.
     ///
     /// The limit trades memory for time, and changes no answer. The globs that need an automaton share a few. A row is a state of
-    /// a lazy DFA: calls make rows as paths need them, and then read one entry of a row for each byte of a path. The set keeps at
+    /// a lazy DFA: calls make rows as paths need them, and then read an entry of a row for each byte of a path. The set keeps at
     /// most four caches of rows for each automaton, and the automata share the limit by their numbers of states. A
-    /// [`Searcher`](crate::Searcher) has one such cache for each automaton, so its rows take at most a quarter of the limit. An
+    /// [`Searcher`](crate::Searcher) has such a cache for each automaton, so its rows take at most a quarter of the limit. An
     /// automaton whose cache would have less than 4 KiB has no rows. It is stepped instead, as in a call that finds no cache:
-    /// each byte of a path then takes as many steps as the automaton is in states, and calls without a scratch take two bits of
-    /// memory for each of its states.
+    /// each byte of a path then takes a step for each current state of the automaton. Calls without a scratch then allocate two
+    /// bits for each state.
     ///
     /// The limit counts all memory of rows: their entries, their lists of states, and the table that finds them. A cache always
-    /// has room for one row, even if that passes its part of the limit. Except for such caches, the caches of a searcher take at
+    /// has room for a row, even if that passes its part of the limit. Except for such caches, the caches of a searcher take at
     /// most 8 MiB together, under any limit.
     ///
     /// With 0 there are no rows, and the set keeps no memory between calls. That is best for few paths. Other memory has no
@@ -88,8 +92,7 @@ impl GlobSetBuilder {
 
     /// Adds a glob after the others, and returns the builder, so that calls can be chained.
     ///
-    /// Returns an error only if memory runs out. The builder then has the globs that it had before the call,
-    /// and the new glob is dropped. [`GlobSetBuilder::push`] does the same, for code that goes on after an error.
+    /// After an error the new glob is dropped. [`GlobSetBuilder::push`] does the same, for code that goes on after an error.
     pub fn add(&mut self, glob: Glob) -> Result<&mut GlobSetBuilder, Error>
         ensures* lends { sem 𝓛 (LendsItself self.entry result) }
         ensures ok { IfOk result (λ b. (b.ghost_name ≡ self.entry.ghost_name)
@@ -104,8 +107,7 @@ impl GlobSetBuilder {
 
     /// Adds a glob after the others, like [`GlobSetBuilder::add`], but returns no reference to the builder.
     ///
-    /// Returns an error only if memory runs out. The builder then has the globs that it had before the call, and more
-    /// globs can be added to it; the new glob is dropped.
+    /// After an error the new glob is dropped, and other globs can be added.
     ///
     /// ```rust
     /// use globset::{Glob, GlobSetBuilder};
@@ -129,12 +131,10 @@ impl GlobSetBuilder {
     }
 
     /// Returns the set of the globs that were added, in order. The builder is unchanged, and more globs can be added to it. The
-    /// globs are not copied: the set keeps what it needs to match.
+    /// globs are not copied: the set stores only what matching needs.
     ///
     /// Keys and states take time and memory linear in the texts of the globs, except that some of these are sorted. Rows of
     /// automata are made by calls that match.
-    ///
-    /// Returns an error only if memory runs out.
     pub fn build(&self) -> Result<GlobSet, Error>
         ensures ok { IfOk result (λ s. set_globs s ≡ builder_globs self.now) }
         ensures err { IsOkUnless result out_of_memory }
@@ -146,8 +146,6 @@ impl GlobSetBuilder {
     /// used again. It keeps the limit of [`GlobSetBuilder::dfa_size_limit`].
     ///
     /// It takes time and memory as [`GlobSetBuilder::build`] does, and gives the memory of the globs back.
-    ///
-    /// Returns an error only if memory runs out. The builder then has the globs that it had before the call.
     ///
     /// ```rust
     /// use globset::{Glob, GlobSetBuilder};
@@ -171,10 +169,10 @@ impl GlobSetBuilder {
         Ok(set)
     }
 
-    /// Returns the set of the globs that were added, in order, and drops each glob once the set has what it needs of it. It takes
-    /// as much time as [`GlobSetBuilder::build`], and less memory, since it frees globs while it makes the set.
+    /// Returns the set of the globs that were added, in order. It drops each glob as soon as the set does not need it any more.
+    /// It takes as much time as [`GlobSetBuilder::build`], and less memory, since it frees globs while it makes the set.
     ///
-    /// Returns an error only if memory runs out. The globs are dropped then, too.
+    /// After an error the globs are dropped, too.
     ///
     /// ```rust
     /// use globset::{Glob, GlobSetBuilder};
@@ -195,7 +193,7 @@ impl GlobSetBuilder {
         set_of_globs(*pats.allocator(), dfa_size_limit, pats)
     }
 
-    /// Returns a builder of equal globs and the same limit, with memory of its own. Returns an error only if memory runs out.
+    /// Returns a builder of equal globs and the same limit, with memory of its own.
     pub fn clone(&self) -> Result<GlobSetBuilder, Error>
         ensures ok { IfOk result (λ b. b ≡ self.now) }
         ensures err { IsOkUnless result out_of_memory }

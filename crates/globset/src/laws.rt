@@ -13,12 +13,12 @@ use globset_glob::{
     ValueError, ValueErrorKind, Visits,
 };
 
-/// One more glob after the others adds at most its own index, at the end of the indexes. The others stay as they are.
+/// Another glob after the others adds at most its own index, at the end of the indexes. The others stay as they are.
 pub fn add_keeps()
     ensures { AddKeeps }
 {}
 
-/// Another order of the globs renames the indexes, and changes nothing else. The renaming is one to one.
+/// Another order of the globs renames the indexes, and changes nothing else. The renaming is a bijection.
 pub fn order_renames()
     ensures { OrderRenames }
 {}

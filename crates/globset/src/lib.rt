@@ -1,8 +1,7 @@
 //! Globs: which paths match a pattern such as `src/**/*.{c,h}`.
 //!
-//! - A [`Glob`] is one parsed pattern: [`Glob::new`] parses it under the default options, and [`GlobBuilder`] under
-//!   others.
-//! - A [`GlobMatcher`] matches one glob against paths.
+//! - A [`Glob`] is a parsed pattern: [`Glob::new`] parses it under the default options, and [`GlobBuilder`] under others.
+//! - A [`GlobMatcher`] matches a glob against paths.
 //! - A [`GlobSet`] matches many globs against a path at once.
 //! - A [`Searcher`] has a set and the memory to match many paths with it, and a [`MatcherSearcher`] a matcher. They cannot fail.
 //! - [`escape`] returns a pattern that matches the given text and nothing else.
@@ -12,7 +11,7 @@
 //!
 //! In the examples of this documentation `rt` is the runtime that `main` is given, and `alloc` its allocator, `rt.alloc()`.
 //!
-//! One glob:
+//! A glob:
 //!
 //! ```rust
 //! use globset::Glob;
@@ -66,25 +65,24 @@
 //! | `\` | the character after it | `\*` matches `*`, and not `a` |
 //! | another character | its bytes in UTF-8 | `é.c` matches `é.c`, and not `e.c` |
 //!
-//! **Paths.** A path is not changed before matching. `.` and `..` are components like others, so `*/b` matches `../b`. The
-//! path `a/../b` is another one than `b`. Each `/` has to be matched, also one at the start or at the end, and a second one in
-//! a row. A component that begins with `.` is matched like others. Only two things depend on `..`: [`Candidate::basename`]
-//! returns nothing if the last component is `..`, and in a set the glob `**/..` matches no path (see [`GlobSet`]).
+//! **Paths.** A path is not changed before matching. `.` and `..` are components like others, so `*/b` matches `../b`. The paths
+//! `a/../b` and `b` are different. Each `/` has to be matched, also at the start or at the end, and a second `/` in a row. A
+//! component that begins with `.` is matched like others. Only two rules depend on `..`: [`Candidate::basename`] returns nothing
+//! if the last component is `..`, and in a set the glob `**/..` matches no path (see [`GlobSet`]).
 //!
-//! **Stars.** `**` is more than two `*` only alone, or as a whole component: between two `/`, or between a `/` and the start
-//! or end of the glob or of a branch in braces. Several in a row, as in `**/**/a`, match what one does. Any other run of
-//! stars, as in `a**`, `**a`, `a***b` and `{**,a}`, is that many `*`, and matches what one `*` does.
+//! **Stars.** `**` is more than two `*` only alone, or as a whole component: between two `/`, or between a `/` and the start or
+//! end of the glob or of a branch in braces. Several in a row, as in `**/**/a`, match like a single `**`. Any other run of stars,
+//! as in `a**`, `**a`, `a***b` and `{**,a}`, is that many `*`, and matches like a single `*`.
 //!
 //! **Braces.** What stands between the commas are branches, and each is a glob with its own `**`: `x{**/a,b}` matches `xa`,
 //! `xy/a` and `xb`. Braces nest to any depth. A branch is left out if it is empty, or only has branches in braces that are
 //! left out: `a{,b}` matches `ab`, and not `a`. Under `empty_alternates` none is left out. Braces without a branch match
 //! nothing more: `a{}` matches `a`. A `,` outside braces matches itself.
 //!
-//! **Classes** match one byte. A range has both of its ends. The first character after `[`, `[!` or `[^` is always in the
-//! class: `[]]`, `[!]]` and `[-a]` are classes. So is a `-` at the end. A `\` in a class escapes nothing, and is in it. A
-//! `/` in a class is matched under `literal_separator`, too, and by `[!a]`. A character that is not ASCII stands for its
-//! bytes: `[é]` matches one byte, C3 or A9, and not `é`, which is both. `docs/DEFINITIONS.md` has the bytes of a range of
-//! them.
+//! **Classes** match a byte. A range has both of its ends. The first character after `[`, `[!` or `[^` is always in the class:
+//! `[]]`, `[!]]` and `[-a]` are classes. So is a `-` at the end. A `\` in a class escapes nothing, and is in it. A `/` in a class
+//! is matched under `literal_separator`, too, and by `[!a]`. A character that is not ASCII stands for its bytes: `[é]` matches a
+//! byte, C3 or A9, and not `é`, which is both. `docs/DEFINITIONS.md` has the bytes of a range of such characters.
 //!
 //! ## Options
 //!
@@ -101,8 +99,8 @@
 //!
 //! ## Errors
 //!
-//! A text is a glob unless it has one of five errors: a class or braces that are not closed, a `}` that closes nothing, a
-//! `\` at its end, or a range that goes down, as `[z-a]`. [`ErrorKind`] names them. The first one from the left is returned.
+//! A text is a glob unless it has an error. There are five, named by [`ErrorKind`]: a class or braces that are not closed, a `}`
+//! that closes nothing, a `\` at its end, or a range that goes down, as `[z-a]`. The first error from the left is returned.
 #![tactic(auto)]
 
 mod builder;

@@ -16,8 +16,8 @@ use std::marker::Model;
 use std::mem;
 use std::sync::Arc;
 
-/// A [`GlobSet`] with all the memory that one thread needs to match paths. [`Searcher::new`] allocates it: no other call
-/// allocates, and none can fail.
+/// A [`GlobSet`] with all the memory that a thread needs to match paths. [`Searcher::new`] allocates it: no other call allocates,
+/// and none can fail.
 ///
 /// Searchers of a set share its keys and automata. A program with several threads makes a searcher for each thread. The calls of
 /// a [`GlobSet`] are about as fast once a set has been used for a while, but they may allocate, and so may fail.
@@ -38,7 +38,7 @@ use std::sync::Arc;
 #[derive(Drop)]
 pub struct Searcher {
     set: GlobSet,
-    /// What the set matches with. It is `None` if there are no globs.
+    /// The globs, compiled. It is `None` if there are no globs.
     matcher: Option<Arc<SetMatcher>>,
     scratch: Scratch,
     caches: Caches,
@@ -64,13 +64,12 @@ impl Searcher {
     ghost use Rattle.std.specs.Borrow.{sem};
     ghost use Rattle.globset.specs.Lending.{LendsFound};
 
-    /// Returns a searcher of the set, which shares the keys and automata of the set. It takes eight bytes of memory for each
-    /// glob, and as much as a [`Scratch`] for the set. If the set has automata, it takes memory for rows that it keeps from one
-    /// path to the next: up to a quarter of the limit that
-    /// [`GlobSetBuilder::dfa_size_limit`](crate::GlobSetBuilder::dfa_size_limit) sets, 4 MiB by default and 8 MiB at most, and
-    /// more if automata have so many states that one row does not fit.
+    /// Returns a searcher of the set, which shares the keys and automata of the set. It allocates eight bytes for each glob, and
+    /// as much as a [`Scratch`] for the set. If the set has automata, it also allocates a cache of rows: up to a quarter of the
+    /// limit that [`GlobSetBuilder::dfa_size_limit`](crate::GlobSetBuilder::dfa_size_limit) sets, 4 MiB by default and 8 MiB at
+    /// most. The cache is larger only if an automaton has too many states for a row to fit.
     ///
-    /// Returns an error only if memory runs out or 2^63 sets share these.
+    /// Fails only if memory runs out or 2^63 sets share these.
     pub fn new(alloc: Global, set: &GlobSet) -> Result<Searcher, Error>
         ensures set { IfOk result (λ s. s.set ≡ set.now) }
         ensures found { IfOk result (λ s. s.found ≡ []) }
@@ -99,8 +98,8 @@ impl Searcher {
         &self.set
     }
 
-    /// Returns how many bytes of memory its indexes take, and the rows that it may keep from one path to the next. Beside
-    /// these it takes a few bits for each glob, and for each state of the largest automaton of the set.
+    /// Returns the size of its indexes and of its cache of rows, in bytes. It also has a few bits for each glob, and for each
+    /// state of the largest automaton of the set.
     ///
     /// A searcher takes its memory when it is made, and no more later.
     pub fn bytes(&self) -> usize {
@@ -120,7 +119,7 @@ impl Searcher {
         self.is_match_visits(path, &mut visits)
     }
 
-    /// Like [`Searcher::is_match`], but also counts the visits: at most as many as [`GlobSet::is_match_visits`].
+    /// Like [`Searcher::is_match`], but also counts the visits, with the bound of [`GlobSet::is_match_visits`].
     pub fn is_match_visits(&mut self, path: &Candidate<'_>, visits: &mut Visits) -> bool
         ensures some { IsTrue result ↔ (matching_indexes (set_globs self.old.set) path.now ≢ []) }
         ensures kept { self.new ≡ self.old }
@@ -148,7 +147,7 @@ impl Searcher {
         self.matches_all_visits(path, &mut visits)
     }
 
-    /// Like [`Searcher::matches_all`], but also counts the visits: at most as many as [`GlobSet::matches_all_visits`].
+    /// Like [`Searcher::matches_all`], but also counts the visits, with the bound of [`GlobSet::matches_all_visits`].
     pub fn matches_all_visits(&mut self, path: &Candidate<'_>, visits: &mut Visits) -> bool
         ensures all { IsTrue result
             ↔ ContainsAllBelow (matching_indexes (set_globs self.old.set) path.now)
@@ -177,7 +176,7 @@ impl Searcher {
         self.find_visits(path, &mut visits);
     }
 
-    /// Like [`Searcher::find`], but also counts the visits: at most as many as [`GlobSet::matches_visits`].
+    /// Like [`Searcher::find`], but also counts the visits, with the bound of [`GlobSet::matches_visits`].
     pub fn find_visits(&mut self, path: &Candidate<'_>, visits: &mut Visits)
         ensures found { self.new.found ≡ matching_indexes (set_globs self.old.set) path.now }
         ensures set { self.new.set ≡ self.old.set }
@@ -251,8 +250,7 @@ impl Searcher {
         self.can_match_below_visits(folder, &mut visits)
     }
 
-    /// Like [`Searcher::can_match_below`], but also counts the visits: at most as many as
-    /// [`GlobSet::can_match_below_visits`].
+    /// Like [`Searcher::can_match_below`], but also counts the visits, with the bound of [`GlobSet::can_match_below_visits`].
     pub fn can_match_below_visits(&mut self, folder: &Candidate<'_>, visits: &mut Visits) -> bool
         ensures some { IsTrue result ↔ MatchesBelow (set_globs self.old.set) folder.now }
         ensures kept { self.new ≡ self.old }

@@ -42,6 +42,10 @@ use std::sync::Arc;
 /// if it is case-sensitive and is parsed like `**/..`. It counts in [`GlobSet::len`], so [`GlobSet::matches_all`] is
 /// false on every path if the set has an excluded glob.
 ///
+/// # Errors
+///
+/// Calls that return a [`Result`] fail only if memory runs out. [`GlobSet::clone`] and [`GlobSet::from_value`] have other errors.
+///
 /// ```rust
 /// use globset::{Glob, GlobSet};
 ///
@@ -63,7 +67,7 @@ use std::sync::Arc;
 /// ```
 #[derive(Drop)]
 pub struct GlobSet {
-    /// What the set matches with, which clones and searchers share. It is `None` if there are no globs.
+    /// The globs, compiled, which clones and searchers share. It is `None` if there are no globs.
     pub(crate) matcher: Option<Arc<SetMatcher>>,
 }
 
@@ -122,8 +126,6 @@ impl GlobSet {
     /// Keys and states take time and memory linear in the texts of the globs, except that some of these are sorted. Rows of
     /// automata are made by calls that match, and those that the set keeps take at most 16 MiB
     /// ([`DEFAULT_DFA_SIZE_LIMIT`](crate::DEFAULT_DFA_SIZE_LIMIT)). [`GlobSetBuilder::dfa_size_limit`] sets another limit.
-    ///
-    /// Returns an error only if memory runs out.
     pub fn new<'g, I: IntoIterator<Item = &'g Glob>>(
         alloc: Global,
         globs: I,
@@ -147,11 +149,13 @@ impl GlobSet {
     /// Returns the set of the globs in a JSON array, in order. Each element is a text or an object with options, and is read as
     /// [`Glob::from_value`] reads it.
     ///
-    /// Returns one of these errors:
+    /// # Errors
+    ///
+    /// Fails with:
     ///
     /// - the error of the first element that is not a glob, with its index;
     /// - [`ValueErrorKind::NotArray`] if the value is not an array, with no index;
-    /// - [`ValueErrorKind::Glob`] of an out-of-memory error if memory runs out, with no index.
+    /// - [`ValueErrorKind::Glob`] of an out-of-memory error, with no index.
     ///
     /// ```rust
     /// use globset::GlobSet;
@@ -172,7 +176,7 @@ impl GlobSet {
     }
 
     /// Returns an equal set, which shares the keys and automata. It does not allocate, and takes little time for sets of any
-    /// size. Returns an error only if 2^63 sets share them.
+    /// size. Fails only if 2^63 sets share them.
     pub fn clone(&self) -> Result<GlobSet, Error>
         ensures ok { IfOk result (λ s. s ≡ self.now) }
         ensures err { IsOkUnless result out_of_memory }
@@ -185,8 +189,8 @@ impl GlobSet {
         })
     }
 
-    /// Returns for how many bytes of rows the set keeps memory between calls. It is 0 in a new set, and calls raise it, at most
-    /// to the limit that [`GlobSetBuilder::dfa_size_limit`] sets, which says what it counts. Clones share this memory.
+    /// Returns the size of the caches that the set keeps between calls, in bytes. It is 0 in a new set, and calls raise it, at
+    /// most to the limit that [`GlobSetBuilder::dfa_size_limit`] sets. Clones share this memory.
     ///
     /// ```rust
     /// use globset::{Glob, GlobSet};
@@ -203,7 +207,7 @@ impl GlobSet {
         }
     }
 
-    /// Returns the set that matches with this: for a crate that adds globs to a builder one by one, as `globset_c` does.
+    /// Returns the set that matches with this: for a crate that adds globs to a builder in turn, as `globset_c` does.
     pub fn of_matcher(matcher: Arc<SetMatcher>) -> GlobSet
         ensures globs { set_globs result ≡ set_globs (arc_value matcher).set }
         ensures matcher { set_globs (arc_value matcher).set ≢ [] → result ≡ (arc_value matcher).set }
@@ -217,7 +221,7 @@ impl GlobSet {
         }
     }
 
-    /// Returns what the set matches with, or `None` if it has no globs.
+    /// Returns the compiled globs, or `None` if the set has no globs.
     #[inline(always)]
     pub(crate) fn matcher(&self) -> Option<&SetMatcher>
         ensures set { IfSome result (λ m. m.now.set ≡ self.now) }
@@ -274,8 +278,7 @@ impl fmt::Debug for GlobSet {
     }
 }
 
-/// Adds a glob after those that were added. It takes time and memory linear in the glob's text. Returns an error if memory runs
-/// out; the builder then has no globs.
+/// Adds a glob after the others. It takes time and memory linear in the glob's text. After an error the builder has no globs.
 fn add(builder: &mut SetMatcherBuilder, glob: &Glob) -> Result<(), AllocError>
     requires { length builder.old.given < builder.old.count }
     ensures glob { OnOk result (builder.new.given ≡ builder.old.given ++ glob.now ∷ []) }
@@ -286,7 +289,6 @@ fn add(builder: &mut SetMatcherBuilder, glob: &Glob) -> Result<(), AllocError>
 }
 
 /// Returns the set of these globs, in order. They are not copied. The rows that it keeps take at most `dfa_size_limit` bytes.
-/// Returns an error only if memory runs out.
 pub(crate) fn set_of_slice(
     alloc: Global,
     dfa_size_limit: usize,

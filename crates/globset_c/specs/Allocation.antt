@@ -10,11 +10,11 @@ use Rattle.globset_c.specs.Kinds.{IfWork}
 abbrev pub as_object : WorkValue → Option Object
 as_object w = Some (Work w)
 
--- The second work fits each set and each matcher that the first one fits, and has room for as many indexes.
+-- The second work fits each set and each matcher that the first fits, and has room for at least the same number of indexes.
 abbrev pub HasGrown : WorkValue → WorkValue → Type 0
 HasGrown w v = FitsAsBefore w.scratch v.scratch × (vec_capacity w.found ≤ vec_capacity v.found)
 
--- The object is as it was, or is a work that has grown, and has found what it had found before.
+-- The object is as it was, or is a work that has grown, and holds the same result as before.
 abbrev pub IsGrown : Option Object → Option Object → Type 0
 IsGrown old new = (new ≡ old) ⊎ IfWork old (λ w. IfWork new (λ v. HasGrown w v × (v.found.items ≡ w.found.items)))
 

@@ -1,4 +1,4 @@
--- What C is told of errors.
+-- Errors as C sees them.
 use Rattle.std.specs.Prelude.{◌≡◌, ℕ, List, Option, Some, None, option_and_then}
 use Rattle.std.specs.Char.{IsScalar}
 use Rattle.std.specs.Str.{chars}
@@ -11,7 +11,7 @@ use Rattle.glob_text.specs.declared.error.kind.ErrorKind.TheVariants as kinds
 use Rattle.globset_c.specs.Options.{options_of}
 use Rattle.globset_c.specs.declared.error.TextError.{TextError}
 
--- What C is told of an error of this kind at this offset. The other kinds are no errors of a text.
+-- An error as C sees it, of this kind at this offset. The other kinds are no errors of a text.
 abbrev pub told : ErrorKind → ℕ → Option TextError
 told kinds.UnclosedClass at = Some (record { kind = 1; start = 0; end = 0; offset = at })
 told (kinds.InvalidRange start end) at = Some (record { kind = 2; start = start; end = end; offset = at })
@@ -23,12 +23,12 @@ told kinds.InvalidRecursive at = None
 told kinds.NestedAlternates at = None
 told (kinds.Regex text) at = None
 
--- The text is no glob under these options, and its first error is told, with where it stands.
+-- The text is no glob under these options, and this is its first error, with its offset.
 abbrev pub IsErrorOf : List ℕ → ℕ → TextError → Type 0
 IsErrorOf text options e = (f : ParseErrorKind) × HasParseError (options_of options) (chars text) f
     × (option_and_then (told (kind_of f)) (error_offset (options_of options) (chars text)) ≡ Some e)
 
--- The numbers tell of an error of this kind. Those of a range are its characters.
+-- The numbers are those of an error of this kind; for a range its characters are among them.
 abbrev pub IsTold : TextError → ErrorKind → Type 0
 IsTold e kinds.UnclosedClass = e.kind ≡ 1
 IsTold e (kinds.InvalidRange start end) = (e.kind ≡ 2) × (e.start ≡ start) × (e.end ≡ end) × IsScalar start × IsScalar end

@@ -1,4 +1,4 @@
--- Facts of an object that is of one kind.
+-- Facts of an object of a given kind.
 use Rattle.std.specs.Prelude.{Option, Some, ⊤}
 use Rattle.globset_glob.specs.GlobMatches.{GlobValue}
 use Rattle.globset.specs.SearcherValue.{SearcherValue}

@@ -6,7 +6,7 @@ use Rattle.globset_c.specs.declared.lent.Lent.{Lent}
 use Rattle.globset_c.specs.declared.object.Object.{Object}
 use Rattle.globset_c.specs.declared.object.Object.TheVariants.{Glob}
 
--- the glob, if the object is one
+-- the glob, if the object is a glob
 abbrev pub glob_in : Object → List GlobValue
 glob_in (Glob g) = g ∷ []
 glob_in _ = []

@@ -1,13 +1,13 @@
--- What the bits of options stand for.
+-- The meaning of the options' bits.
 use Rattle.std.specs.Prelude.{ℕ, ◌<◌, Bool, not, ◌==◌, List, bit_and}
 use Rattle.glob_syntax.specs.declared.options.Options.{Options}
 use Rattle.glob_text.specs.GlobMatches.{GlobValue}
 
--- The bit, a power of 2, is among those of the options.
+-- The bit, a power of 2, is among the options' bits.
 abbrev pub has_bit : ℕ → ℕ → Bool
 has_bit options bit = not (bit_and options bit == 0)
 
--- the options that the bits stand for: with none of them, the default ones
+-- the options of the bits: without any, the default options
 abbrev pub options_of : ℕ → Options
 options_of bits = record {
   case_insensitive = has_bit bits 1;

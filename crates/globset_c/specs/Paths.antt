@@ -3,7 +3,7 @@ use Rattle.std.specs.Prelude.{ℕ, ◌+◌, ◌≤◌, List, [], ◌∷◌, flat
 use Rattle.globset_glob.specs.GlobMatches.{GlobValue}
 use Rattle.globset.specs.Answer.{matching_indexes}
 
--- No end is below the one before it, where the first has `start` before it, nor above the number of bytes.
+-- No end is below the end before it, where `start` comes before the first, nor above the number of bytes.
 abbrev pub AreEnds : ℕ → ℕ → List ℕ → Type 0
 AreEnds len start [] = ⊤
 AreEnds len start (end ∷ ends) = (start ≤ end) × (end ≤ len) × AreEnds len end ends
@@ -26,11 +26,11 @@ answer_byte globs path = one_if_any (matching_indexes globs path)
 abbrev pub answers_for : List GlobValue → List ℕ → ℕ → List ℕ → List ℕ
 answers_for globs bytes start ends = map (answer_byte globs) (paths_from bytes start ends)
 
--- the indexes of the globs that match the paths, in a set of these globs: those of the first path first
+-- the indexes of the globs that match the paths, in a set of these globs: the first path's first
 abbrev pub indexes_for : List GlobValue → List ℕ → ℕ → List ℕ → List ℕ
 indexes_for globs bytes start ends = flat_map (matching_indexes globs) (paths_from bytes start ends)
 
--- where the indexes of each path end among those of all paths, if so many stand before those of the first
+-- the ends of each path's indexes among the indexes of all paths, after this number of earlier indexes
 abbrev pub ends_among : List GlobValue → ℕ → List (List ℕ) → List ℕ
 ends_among globs before [] = []
 ends_among globs before (path ∷ paths) = let end = before + length (matching_indexes globs path) in end ∷ ends_among globs end paths

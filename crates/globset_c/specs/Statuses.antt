@@ -5,6 +5,6 @@ abbrev is_one_of : List ℕ → ℕ → Bool
 is_one_of [] n = false
 is_one_of (m ∷ ms) n = (n == m) || is_one_of ms n
 
--- the number is one of these
+-- the number is among these
 abbrev pub IsOneOf : List ℕ → ℕ → Type 0
 IsOneOf ms n = IsTrue (is_one_of ms n)

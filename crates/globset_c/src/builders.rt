@@ -144,7 +144,7 @@ fn build(object: &mut Object) -> Result<GlobSet, Failure>
     }
 }
 
-/// Sets how many bytes the rows may take that a set keeps between calls, for the sets that a builder makes from then on.
+/// Sets the limit on the bytes of rows that a set keeps between calls, for later sets of a builder.
 #[unsafe(no_mangle)]
 pub extern "C" fn globset_raw_builder_set_dfa_size_limit(
     builder: &mut Owned,

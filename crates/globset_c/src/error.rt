@@ -5,8 +5,8 @@ ghost use Rattle.globset_c.specs.Errors.{told};
 
 use globset::{Error, ErrorKind};
 
-/// The kind of the first error in a text, as a number, the characters of an invalid range, and the byte of the text at which the
-/// error stands. At other kinds the characters are 0.
+/// The first error in a text: its kind as a number, the characters of an invalid range, and the byte of its position. At other
+/// kinds the characters are 0.
 #[repr(C)]
 #[derive(Clone, Copy)]
 pub struct TextError {

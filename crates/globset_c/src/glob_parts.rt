@@ -55,7 +55,7 @@ fn text_of(alloc: Global, object: &Object) -> Result<String, Failure>
     }
 }
 
-/// Tells the options that a glob was read under, as bits.
+/// Writes the options of a glob, as bits.
 #[unsafe(no_mangle)]
 pub extern "C" fn globset_raw_glob_options(glob: &mut Lent, options: &mut u32) -> Status
     ensures same_glob { glob.new ≡ glob.old }

@@ -9,10 +9,10 @@ ghost use Rattle.globset_c.specs.LentAt.{lends, life_coded, share_coded, lent_co
 use crate::object::Object;
 use std::marker::Model;
 
-/// An object that may be read, by its address. To C it is a struct of one pointer.
+/// An object that may be read, by its address. To C it is a struct of a pointer.
 ///
-/// It holds a share of the right to read the object for some lifetime, so there may be any number for one object, in any number
-/// of threads. While there is one, nothing writes or frees the object.
+/// It holds a share of the right to read the object for some lifetime, so an object may have any number of these, in any number
+/// of threads. While any exists, nothing writes or frees the object.
 #[repr(C)]
 #[derive(Drop)]
 pub struct Lent {

@@ -1,4 +1,4 @@
-//! Many paths in one call.
+//! Many paths in a call.
 
 ghost use Rattle.std.specs.Prelude.{◌≡◌, ◌≢◌, ◌⊎◌, Some, Err, [], ◌∷◌, IsSome, IfOk, IfErr, length};
 ghost use Rattle.globset.specs.SetValue.{Fits, FitsAsBefore, set_globs};

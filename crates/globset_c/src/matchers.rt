@@ -1,4 +1,4 @@
-//! Matchers of one glob.
+//! Matchers of a glob.
 
 ghost use Rattle.std.specs.Prelude.{◌≡◌, ◌≢◌, ◌⊎◌, Some, Err, [], ◌∷◌, true, false, IfOk, IfErr, IsSome};
 ghost use Rattle.glob_text.specs.GlobMatches.{glob_matches};

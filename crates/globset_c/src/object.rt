@@ -10,7 +10,7 @@ pub struct Work {
     pub found: Vec<usize>,
 }
 
-/// An object of one of the kinds that C can own.
+/// An object that C can own.
 #[derive(Drop)]
 pub enum Object {
     Glob(ReadGlob),

@@ -14,7 +14,7 @@ use parts::Parts;
 use std::alloc::Global;
 use std::marker::Model;
 
-/// A box of an object, by its address. To C it is a struct of one pointer.
+/// A box of an object, by its address. To C it is a struct of a pointer.
 ///
 /// Its ghost field is the object, where it owns a box, and `None` where it owns nothing: then its pointer may be any. Dropping
 /// it forgets the box.

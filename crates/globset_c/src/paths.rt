@@ -3,7 +3,7 @@
 ghost use Rattle.std.specs.Prelude.{◌↔◌, IsTrue};
 ghost use Rattle.globset_c.specs.Paths.{AreEnds};
 
-/// Returns whether these are ends of paths in so many bytes.
+/// Returns whether these are ends of paths in `len` bytes.
 #[tactic(auto, using(crate::proofs::Ends::ends_join, crate::proofs::Ends::ends_part, crate::proofs::Ends::no_ends_left))]
 pub fn are_ends(len: usize, ends: &[usize]) -> bool
     ensures { IsTrue result ↔ AreEnds len 0 ends.now }

@@ -28,7 +28,7 @@ impl ReadGlob {
     ghost use Rattle.std.specs.Prelude.{◌≡◌};
     ghost use Rattle.globset_c.specs.Options.{IsKnown, options_of};
 
-    /// Makes one of a glob that was read under the options that the bits stand for.
+    /// Returns the glob together with the options' bits under which it was read.
     pub fn of(glob: Glob, bits: u32) -> ReadGlob
         requires options { options_of bits ≡ glob.options }
         requires known { IsKnown bits }

@@ -1,4 +1,4 @@
-//! The indexes of many paths in one call to a searcher.
+//! The indexes of many paths in a call to a searcher.
 
 ghost use Rattle.std.specs.Prelude.{◌≡◌, ◌≢◌, ◌⊎◌, Some, [], ◌∷◌, ◌++◌, IfErr, IfOk, IsSome, OnOk, length};
 ghost use Rattle.globset.specs.SetValue.{set_globs};
@@ -16,15 +16,15 @@ use crate::text;
 use globset::{Candidate, Searcher};
 use std::alloc::{AllocError, Global};
 
-/// The indexes of many paths, and where those of each path end.
+/// The indexes of many paths, and the ends of each path's indexes.
 #[derive(Drop)]
 struct Found {
     indexes: Vec<usize>,
     ends: Vec<usize>,
 }
 
-/// Writes the indexes of the globs of a searcher's set that match each path, one path after another, and where those of each path
-/// end. What the searcher has found afterwards are the indexes of the last path.
+/// Writes the indexes of the globs of a searcher's set that match each path, in the order of the paths, and the ends of each
+/// path's indexes. Afterwards the searcher holds the indexes of the last path.
 #[unsafe(no_mangle)]
 pub extern "C" fn globset_raw_searcher_matches_many(
     alloc: Global,
@@ -104,7 +104,7 @@ fn find_of(
     }
 }
 
-/// Finds the indexes of each path, one path after another.
+/// Finds the indexes of each path, in their order.
 #[tactic(auto, using(crate::proofs::Ends::ends_part, crate::proofs::ManyIndexes::next_indexes, crate::proofs::ManyIndexes::next_end, crate::proofs::ManyIndexes::next_last))]
 fn find_each(
     alloc: Global,
@@ -141,7 +141,7 @@ fn find_each(
     Ok(found)
 }
 
-/// Adds the indexes of a path to those of others, and where they end.
+/// Adds the indexes of a path to the others, and their end.
 fn keep(of_path: &[usize], found: &mut Found) -> Result<(), AllocError>
     ensures indexes { OnOk result
         (found.new.indexes.items ≡ found.old.indexes.items ++ of_path.now) }
@@ -153,7 +153,7 @@ fn keep(of_path: &[usize], found: &mut Found) -> Result<(), AllocError>
     Ok(())
 }
 
-/// Finds the indexes of the last path, if there is one.
+/// Finds the indexes of the last path, if there is any.
 #[tactic(auto, using(crate::proofs::Ends::ends_part, crate::proofs::ManyIndexes::only_last, crate::proofs::ManyIndexes::skip))]
 fn find_last(searcher: &mut Searcher, paths: &[u8], start: usize, ends: &[usize])
     requires { AreEnds (length paths.now) start ends.now }
@@ -174,7 +174,7 @@ fn find_last(searcher: &mut Searcher, paths: &[u8], start: usize, ends: &[usize]
     }
 }
 
-/// Writes the indexes into the room, if it is not too small, and then where those of each path end.
+/// Writes the indexes into the room, if it is not too small, and then the ends of each path's indexes.
 fn hand_over(
     found: &Found,
     index_ends: &mut [usize],

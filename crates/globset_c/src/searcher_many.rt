@@ -1,4 +1,4 @@
-//! Many paths in one call to a searcher.
+//! Many paths in a call to a searcher.
 
 ghost use Rattle.std.specs.Prelude.{◌≡◌, ◌≢◌, ◌⊎◌, Some, Err, [], ◌∷◌, IsSome, IfOk, IfErr, length};
 ghost use Rattle.globset.specs.SetValue.{set_globs};

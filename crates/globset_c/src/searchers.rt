@@ -1,4 +1,4 @@
-//! Searchers: sets, each with the memory that one thread matches with it.
+//! Searchers: sets, each with the memory for a thread.
 
 ghost use Rattle.std.specs.Prelude.{◌≡◌, ◌≢◌, Some, None, Err, [], ◌∷◌, length, IfOk, IfErr, IfSome, IsSome};
 ghost use Rattle.globset.specs.Answer.{matching_indexes};

@@ -87,7 +87,7 @@ fn set_of(alloc: Global, globs: &mut [Lent]) -> Result<GlobSet, AllocError>
     Ok(GlobSet::of_matcher(matcher))
 }
 
-/// Adds the glob after those that were added, if the object is one.
+/// Adds the glob after the others, if the object is a glob.
 fn add(
     object: &Object,
     builder: Box<SetMatcherBuilder>,

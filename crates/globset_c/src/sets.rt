@@ -1,4 +1,4 @@
-//! Sets of globs, and questions about one path.
+//! Sets of globs, and calls about a path.
 
 ghost use Rattle.std.specs.Prelude.{◌≡◌, ◌≢◌, ◌⊎◌, Some, None, [], ◌∷◌, length, IfSome, IsSome};
 ghost use Rattle.globset.specs.Answer.{matching_indexes};
@@ -15,7 +15,7 @@ use crate::status::{DONE, NO, OUT_OF_MEMORY, Status, WRONG_KIND, YES};
 use crate::works::fit;
 use globset::{Candidate, GlobSet, Visits};
 
-/// Tells how many globs a set has.
+/// Writes the number of globs of a set.
 #[unsafe(no_mangle)]
 pub extern "C" fn globset_raw_set_len(set: &mut Lent, len: &mut usize) -> Status
     ensures same_set { set.new ≡ set.old }

@@ -27,7 +27,7 @@ pub const UNKNOWN_OPTION: Status = 6;
 /// An object is not of the kind that the call requires.
 pub const WRONG_KIND: Status = 7;
 
-/// The ends of paths are out of order, lie beyond the bytes, or are not one for each answer.
+/// The ends of paths are out of order, lie beyond the bytes, or their number is not the number of answers.
 pub const BAD_ENDS: Status = 8;
 
 /// The text is longer than the room for it, or the indexes are more.

@@ -10,7 +10,7 @@ use crate::status::{DONE, Status};
 use globset::{Glob, GlobSet, Scratch};
 use std::test::Fail;
 
-/// Asks what is lent about a path, with a work, and returns how many indexes there are.
+/// Calls the lent object with a path and a work, and returns the number of indexes.
 fn ask(lent: Lent, work: Owned, path: &[u8]) -> ((Owned, Status, usize), Lent)
     requires { IsSome work.object }
     ensures back { result.1 ≡ lent }

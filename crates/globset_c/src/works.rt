@@ -34,7 +34,7 @@ pub extern "C" fn globset_raw_work_new(alloc: Global, out: &mut Owned) -> Status
     }
 }
 
-/// Makes a work fit one more set or matcher.
+/// Makes a work fit another set or matcher.
 #[unsafe(no_mangle)]
 pub extern "C" fn globset_raw_work_fit(work: &mut Owned, asked: &mut Lent) -> Status
     requires owned { IsSome work.old.object }
@@ -100,7 +100,7 @@ fn fit_object(object: &Object, work: &mut Work) -> Status
     }
 }
 
-/// Makes a work fit one more set. It takes no memory if the work fits the set already.
+/// Makes a work fit another set. It allocates nothing if the work fits the set already.
 pub fn fit(work: &mut Work, set: &GlobSet) -> Result<(), AllocError>
     ensures fits { OnOk result (Fits work.new.scratch set.now) }
     ensures others { FitsAsBefore work.old.scratch work.new.scratch }
@@ -113,7 +113,7 @@ pub fn fit(work: &mut Work, set: &GlobSet) -> Result<(), AllocError>
     }
 }
 
-/// Makes a work fit one more set, with room for all of its indexes. It takes no memory if the work has them already.
+/// Makes a work fit another set, with room for all of its indexes. It allocates nothing if the work has them already.
 pub fn fit_indexes(work: &mut Work, set: &GlobSet) -> Result<(), AllocError>
     ensures fits { OnOk result (HoldsIndexesOf work.new set.now) }
     ensures others { HasGrown work.old work.new }
@@ -128,7 +128,7 @@ pub fn fit_indexes(work: &mut Work, set: &GlobSet) -> Result<(), AllocError>
     work.found.reserve(len.saturating_sub(work.found.len()))
 }
 
-/// Makes a work fit one more matcher. It takes no memory if the work fits the matcher already.
+/// Makes a work fit another matcher. It allocates nothing if the work fits the matcher already.
 pub fn fit_matcher(work: &mut Work, matcher: &GlobMatcher) -> Result<(), AllocError>
     ensures fits { OnOk result (FitsMatcher work.new.scratch matcher.now) }
     ensures others { FitsAsBefore work.old.scratch work.new.scratch }

@@ -11,7 +11,7 @@ use Rattle.glob_text.specs.Errors.{ErrorValue, glob_or_parse_error}
 use Rattle.glob_text.specs.GlobMatches.{GlobValue, default_glob, default_options}
 use Rattle.glob_text.specs.ValueErrors.{ValueErrorValue, of_kind, not_text, unknown_key, not_bool}
 
--- the glob of a text, or the error of the text as one of a value
+-- the glob of a text, or the error of the text, as an error of a value
 abbrev pub of_text : Result GlobValue ErrorValue → Result GlobValue ValueErrorValue
 of_text (Ok g) = Ok g
 of_text (Err e) = Err (of_kind (kinds.Glob e))
@@ -87,7 +87,7 @@ glob_of_object entries = elim (option_and_then as_str (get_member glob_key entri
 
 -- ---- values
 
--- What a value is read as. A text is read as the glob of its content under the default options, or gives the error of that
+-- The reading of a value. A text is read as the glob of its content under the default options, or gives the error of that
 -- content, and an object is read by its members. Any other value gives the error `not_text`.
 abbrev pub glob_of_value : Data → Result GlobValue ValueErrorValue
 glob_of_value (string text) = of_text (glob_or_parse_error (default_glob text))

@@ -124,8 +124,8 @@ impl<'a> GlobBuilder<'a> {
         self
     }
 
-    /// Sets whether `?` matches one whole character: the bytes of a Unicode scalar value in UTF-8, except `/` under
-    /// `literal_separator`. If it is off, `?` matches one byte. `*`, classes and all else match bytes in both cases. Off by
+    /// Sets whether `?` matches a whole character: the bytes of a Unicode scalar value in UTF-8, except `/` under
+    /// `literal_separator`. If it is off, `?` matches a byte. `*`, classes and all else match bytes in both cases. Off by
     /// default.
     ///
     /// ```rust
@@ -147,8 +147,10 @@ impl<'a> GlobBuilder<'a> {
 
     /// Reads the glob under its options, in time linear in the length of its text. The builder does not change.
     ///
-    /// Returns an error if the text is not a glob, or if memory runs out. The error of a text holds the text, and has the kind
-    /// and the offset of the first error in it.
+    /// # Errors
+    ///
+    /// Fails if the text is not a glob, or if memory runs out. The error of a text holds the text, and the kind and the offset of
+    /// the first error in it.
     pub fn build(&self, alloc: Global) -> Result<Glob, Error>
         ensures ok { IfOk result (λ g. g ≡ self.now) }
         ensures read { IfOk result IsRead }

@@ -82,8 +82,10 @@ impl Glob {
 
     /// Reads a glob under the default options: `\` escapes, and the other options are off.
     ///
-    /// Returns an error if the text is not a glob, or if memory runs out. The error of a text holds the text, and has the kind
-    /// and the offset of the first error in it.
+    /// # Errors
+    ///
+    /// Fails if the text is not a glob, or if memory runs out. The error of a text holds the text, and the kind and the offset of
+    /// the first error in it.
     pub fn new(alloc: Global, glob: &str) -> Result<Glob, Error>
         ensures ok { IfOk result (λ g. g ≡ default_glob glob.now) }
         ensures read { IfOk result IsRead }
@@ -130,7 +132,7 @@ impl Glob {
         self.regex.as_str()
     }
 
-    /// Returns an equal glob, or an error if memory runs out.
+    /// Returns an equal glob.
     pub fn clone(&self) -> Result<Glob, Error>
         ensures ok { IfOk result (λ g. g ≡ self.now) }
         ensures err { IsOkUnless result out_of_memory }
@@ -138,7 +140,7 @@ impl Glob {
         Ok(Clone::clone(self)?)
     }
 
-    /// Returns a matcher for an equal glob, or an error if memory runs out.
+    /// Returns a matcher for an equal glob.
     ///
     /// If the glob's literals decide alone, it copies them. Otherwise it makes an automaton, in time and memory linear in the
     /// glob's text. Rows of this are made by calls that match, and those that the matcher keeps take at most 16 MiB
@@ -150,14 +152,14 @@ impl Glob {
         self.compile_matcher_with_limit(DEFAULT_DFA_SIZE_LIMIT)
     }
 
-    /// Returns a matcher for an equal glob, as [`Glob::compile_matcher`] does, which keeps rows of at most `dfa_size_limit`
-    /// bytes between calls. Returns an error if memory runs out.
+    /// Returns a matcher for an equal glob, as [`Glob::compile_matcher`] does, which keeps rows of at most `dfa_size_limit` bytes
+    /// between calls.
     ///
     /// The limit trades memory for time, and changes no answer. It counts all memory of rows: their entries, their lists of
-    /// states, and the table that finds them. A cache always has room for one row, even if that passes its quarter of the limit.
-    /// Under a limit of less than 16 KiB there are no rows: each byte of a path takes as many steps as the automaton is in
-    /// states, and the calls without a scratch take memory for each path. A glob whose literals decide alone has no automaton
-    /// under any limit. The limit of [`Glob::compile_matcher`] is [`DEFAULT_DFA_SIZE_LIMIT`].
+    /// states, and the table that finds them. A cache always has room for a row, even if that passes its quarter of the limit.
+    /// Under a limit of less than 16 KiB there are no rows. Each byte of a path then takes a step for each current state of the
+    /// automaton, and calls without a searcher allocate for each path. A glob whose literals decide alone has no automaton under
+    /// any limit. The limit of [`Glob::compile_matcher`] is [`DEFAULT_DFA_SIZE_LIMIT`].
     ///
     /// ```rust
     /// use globset::Glob;

@@ -17,7 +17,7 @@ use serde_json::Value;
 use std::alloc::Global;
 
 impl Glob {
-    /// Returns the glob as a JSON value, or an error if memory runs out. [`Glob::from_value`] reads an equal glob from it.
+    /// Returns the glob as a JSON value. [`Glob::from_value`] reads an equal glob from it.
     ///
     /// The value is the glob's text if every option has its default. Otherwise it is an object, with the text under the key
     /// `glob` and each option that does not have its default under the option's name. Its keys are in ascending order.
@@ -45,13 +45,15 @@ impl Glob {
     /// An object has the glob's text under the key `glob`. It may have the name of each option as a key, with true or false
     /// under it; an option that it does not have has its default. It may have no other key.
     ///
+    /// # Errors
+    ///
     /// Returns the first of these errors, without an index:
     ///
     /// - [`ValueErrorKind::NotText`] if the value is neither a text nor an object with a text under `glob`;
     /// - [`ValueErrorKind::UnknownKey`] if an object has another key;
     /// - [`ValueErrorKind::NotBool`] if an option of an object is neither true nor false;
-    /// - [`ValueErrorKind::Glob`] with the error of [`Glob::new`] or [`GlobBuilder::build`](crate::GlobBuilder::build) if
-    ///   the text is not a glob, or if memory runs out.
+    /// - [`ValueErrorKind::Glob`] with the error of [`Glob::new`] or [`GlobBuilder::build`](crate::GlobBuilder::build) if the
+    ///   text is not a glob, or if there is no memory.
     pub fn from_value(alloc: Global, value: &Value) -> Result<Glob, ValueError>
         ensures ok { IfOk result (λ g. glob_of_value (view value.now) ≡ Ok g) }
         ensures read { IfOk result IsRead }

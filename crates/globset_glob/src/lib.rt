@@ -1,4 +1,4 @@
-//! One glob: reading it, and matching paths against it.
+//! A glob: reading it, and matching paths against it.
 #![tactic(auto)]
 
 mod builder;

@@ -1,4 +1,4 @@
-//! Matchers of one glob.
+//! Matchers of a glob.
 
 ghost use Rattle.std.specs.Prelude.{◌≡◌, ◌+◌, ◌≤◌, ◌↔◌, IfOk, IsOk, IsOkUnless, IsTrue};
 ghost use Rattle.lazy_dfa.specs.Sets.{sets_capacity};
@@ -22,12 +22,16 @@ use std::fmt;
 use std::marker::Model;
 use strategy::Strategy;
 
-/// Matches one glob against paths.
+/// Matches a glob against paths.
 ///
 /// Contracts see a matcher as its glob. If the glob's literals decide alone, as in `*.rs` and `src/**`, the matcher compares them
 /// with the path or a part of it. Otherwise it has an automaton for the glob. Calls make rows of the automaton as paths need
-/// them, in at most four caches that the matcher and its clones keep until they are dropped; [`GlobMatcher::kept_bytes`] returns
-/// for how many bytes of rows these have room. A [`MatcherSearcher`] has a cache of its own.
+/// them, in at most four caches that the matcher and its clones keep until they are dropped. [`GlobMatcher::kept_bytes`] returns
+/// the size of these caches. A [`MatcherSearcher`] has a cache of its own.
+///
+/// # Errors
+///
+/// Calls that return a [`Result`] fail only if memory runs out. [`GlobMatcher::clone`] has another error.
 ///
 /// ```rust
 /// use globset::Glob;
@@ -58,7 +62,7 @@ impl GlobMatcher {
     ghost use Rattle.glob_text.specs.GlobMatches.{glob_matches};
     ghost use Rattle.globset_glob.specs.inner.GlobNfa.{IsStrategyOfMatcher};
 
-    /// Returns a matcher of a glob, at the cost of [`Glob::compile_matcher_with_limit`]. Returns an error if memory runs out.
+    /// Returns a matcher of a glob, at the cost of [`Glob::compile_matcher_with_limit`].
     pub(crate) fn new(glob: Glob, dfa_size_limit: usize) -> Result<GlobMatcher, Error>
         ensures ok { IfOk result (λ m. m ≡ glob) }
         ensures err { IsOkUnless result out_of_memory }
@@ -74,14 +78,14 @@ impl GlobMatcher {
         &self.glob
     }
 
-    /// Returns for how many bytes of rows the matcher keeps memory between calls. It is 0 in a new matcher, and where no
-    /// automaton is needed, and calls raise it, at most to the limit of [`Glob::compile_matcher_with_limit`], which says what
-    /// it counts. Clones share this memory.
+    /// Returns the size of the caches that the matcher keeps between calls, in bytes. It is 0 in a new matcher, and where no
+    /// automaton is needed, and calls raise it, at most to the limit of [`Glob::compile_matcher_with_limit`]. Clones share this
+    /// memory.
     pub fn kept_bytes(&self) -> usize {
         self.strategy.kept_bytes()
     }
 
-    /// Returns whether the glob matches a path, or an error if memory runs out.
+    /// Returns whether the glob matches a path.
     ///
     /// For a path that is not UTF-8, or that several matchers are tried on, make a [`Candidate`].
     pub fn is_match<P: AsPath>(&self, path: P) -> Result<bool, Error>
@@ -91,7 +95,7 @@ impl GlobMatcher {
         self.is_match_candidate(&Candidate::new(path.path_text()))
     }
 
-    /// Returns whether the glob matches a candidate's path, or an error if memory runs out.
+    /// Returns whether the glob matches a candidate's path.
     ///
     /// ```rust
     /// use globset::{Candidate, Glob};
@@ -109,9 +113,9 @@ impl GlobMatcher {
 
     /// Does what [`is_match_candidate`](GlobMatcher::is_match_candidate) does, and adds its visits to `visits`.
     ///
-    /// These are at most `(path bytes + 1) * (4 * glob bytes + 4)` visits, also if memory runs out; under `whole_character` the
+    /// These are at most `(path bytes + 1) * (4 * glob bytes + 4)` visits, also after an error; under `whole_character` the
     /// second factor is `16 * glob bytes + 4`. The call allocates nothing if the matcher compares literals. Otherwise it may make
-    /// a cache of rows, and where it has none it takes two bits of memory for each state of the automaton.
+    /// a cache of rows, and where it has none it allocates two bits for each state of the automaton.
     pub fn is_match_visits(&self, path: &Candidate<'_>, visits: &mut Visits) -> Result<bool, Error>
         ensures ok { IfOk result (λ yes. yes ≡ glob_matches self.now path.now) }
         ensures err { IsOkUnless result out_of_memory }
@@ -122,8 +126,8 @@ impl GlobMatcher {
         Ok(self.is_match_in(path, &mut sets, visits)?)
     }
 
-    /// The same, in sets of the caller. Returns an error if memory runs out, and none if the sets have room for as many states
-    /// as the automaton of such a glob may have.
+    /// The same, in sets of the caller. It allocates nothing if the sets have room for as many states as the automaton of such a
+    /// glob may have.
     fn is_match_in(
         &self,
         path: &Candidate<'_>,
@@ -168,7 +172,7 @@ impl GlobMatcher {
         self.is_match_in(path, &mut scratch.sets, visits).unwrap()
     }
 
-    /// Returns whether the glob matches some path below a folder, or an error if memory runs out.
+    /// Returns whether the glob matches some path below a folder.
     ///
     /// A path below a folder is the folder, a `/`, and any bytes, perhaps none. So if this returns false, a walk can skip the
     /// folder and everything below it. The folder is taken as it is: below `a/` are the paths that begin with `a//`, and below
@@ -191,8 +195,8 @@ impl GlobMatcher {
         self.can_match_below_candidate(&Candidate::new(folder.path_text()))
     }
 
-    /// Returns whether the glob matches some path below a candidate's path, as
-    /// [`can_match_below`](GlobMatcher::can_match_below) does, or an error if memory runs out.
+    /// Returns whether the glob matches some path below a candidate's path, as [`can_match_below`](GlobMatcher::can_match_below)
+    /// does.
     pub fn can_match_below_candidate(&self, folder: &Candidate<'_>) -> Result<bool, Error>
         ensures ok { IfOk result (λ yes. IsTrue yes ↔ GlobMatchesBelow self.now folder.now) }
         ensures err { IsOkUnless result out_of_memory }
@@ -203,9 +207,9 @@ impl GlobMatcher {
 
     /// Does what [`can_match_below_candidate`](GlobMatcher::can_match_below_candidate) does, and adds its visits to `visits`.
     ///
-    /// These are at most `(folder bytes + 2) * (4 * glob bytes + 4)` visits, also if memory runs out; under `whole_character` the
+    /// These are at most `(folder bytes + 2) * (4 * glob bytes + 4)` visits, also after an error; under `whole_character` the
     /// second factor is `16 * glob bytes + 4`. The call allocates nothing if the matcher compares literals. Otherwise it may make
-    /// a cache of rows, and where it has none it takes two bits of memory for each state of the automaton.
+    /// a cache of rows, and where it has none it allocates two bits for each state of the automaton.
     pub fn can_match_below_visits(
         &self,
         folder: &Candidate<'_>,
@@ -221,8 +225,8 @@ impl GlobMatcher {
         Ok(strategy.can_match_below(folder, &mut sets, &mut None, visits)?)
     }
 
-    /// Returns a matcher for an equal glob. It copies the glob, and shares its automaton. Returns an error only if memory runs
-    /// out or 2^63 matchers share the automaton.
+    /// Returns a matcher for an equal glob. It copies the glob, and shares its automaton. Fails also if 2^63 matchers share the
+    /// automaton.
     pub fn clone(&self) -> Result<GlobMatcher, Error>
         ensures ok { IfOk result (λ m. m ≡ self.now) }
         ensures err { IsOkUnless result out_of_memory }
@@ -232,7 +236,7 @@ impl GlobMatcher {
         Ok(GlobMatcher { glob, strategy })
     }
 
-    /// Returns what it decides by, once more. It shares the automaton. Returns an error if memory runs out.
+    /// Returns a copy of the strategy, which shares the automaton.
     fn copy_strategy(&self) -> Result<Strategy, AllocError>
         ensures { IfOk result (IsStrategyOfMatcher self.now) }
     {
@@ -263,7 +267,7 @@ impl NeedsScratch for GlobMatcher {
     }
 }
 
-/// The same as the method [`GlobMatcher::clone`], for code that is generic over `Clone`.
+/// Like the method [`GlobMatcher::clone`], for code that is generic over `Clone`.
 impl Clone for GlobMatcher {
     ghost is_clone = { λ m n. n ≡ m };
 

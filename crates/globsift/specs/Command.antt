@@ -1,4 +1,4 @@
--- What the command-line arguments ask for. Each argument is a text in UTF-8.
+-- The meaning of the command-line arguments. Each argument is a text in UTF-8.
 use Rattle.std.specs.Prelude.{◌≡◌, ◌⊎◌, ℕ, List, [], ◌∷◌, ◌++◌, Bool, true, false, ◌==◌, ◌||◌, ◌&&◌, not, Option, Some, None, option_map, Result, Ok, Err, codes, map, string_bytes, if◌then◌else◌}
 use Rattle.std.specs.List.{list_all, list_any}
 use Rattle.std.specs.Str.{bytes_eq}
@@ -31,7 +31,7 @@ pub data FaultValue : Type 0 where
   no_glob : FaultValue
   -- no argument follows `--set`
   set_without_text : FaultValue
-  -- there is an argument other than `-n` beside `--set` and its text
+  -- there is an argument other than `-n`, `--set` and its text
   set_not_alone : FaultValue
   -- the text after `--set` is not JSON
   not_json : FaultValue
@@ -50,7 +50,7 @@ fault_value faults.NotJson = not_json
 fault_value (faults.Glob error) = glob_error error
 fault_value (faults.Value error) = value_error error
 
--- The error is that memory ran out, or it is the one that `result` has.
+-- The error is that memory ran out, or it is the error of `result`.
 abbrev pub IsFaultOf : {X : Type 0} → Result X FaultValue → CommandFault → Type 0
 IsFaultOf result fault = (fault_value fault ≡ glob_error out_of_memory) ⊎ (result ≡ Err (fault_value fault))
 
@@ -64,7 +64,7 @@ is_double_dash argument = bytes_eq argument (codes "--")
 abbrev pub is_dash_set : List ℕ → Bool
 is_dash_set argument = bytes_eq argument (codes "--set")
 
--- the argument is `-n`, which asks for numbered output
+-- the argument is `-n`, for numbered output
 abbrev pub is_dash_n : List ℕ → Bool
 is_dash_n argument = bytes_eq argument (codes "-n")
 
@@ -72,7 +72,7 @@ is_dash_n argument = bytes_eq argument (codes "-n")
 abbrev pub is_dash_r : List ℕ → Bool
 is_dash_r argument = bytes_eq argument (codes "-r")
 
--- the argument is one of the flags
+-- the argument is a flag
 abbrev pub is_flag : List ℕ → Bool
 is_flag argument = list_any (bytes_eq argument)
     (codes "-i" ∷ codes "-s" ∷ codes "-e" ∷ codes "-u" ∷ codes "-b" ∷ codes "-r" ∷ codes "-n" ∷ [])
@@ -135,7 +135,7 @@ abbrev pub is_numbered : List (List ℕ) → Bool
 is_numbered [] = false
 is_numbered (argument ∷ arguments) = not (is_double_dash argument) && (is_dash_n argument || is_numbered arguments)
 
--- the command of these globs, of which there has to be one
+-- the command of these globs, at least one
 abbrev pub with_some_glob : Bool → List GlobValue → Result CommandValue FaultValue
 with_some_glob numbered [] = Err no_glob
 with_some_glob numbered (glob ∷ globs) = Ok (record { globs = glob ∷ globs; numbered = numbered })
@@ -160,7 +160,7 @@ split_at_set [] = None
 split_at_set (argument ∷ arguments) = if is_double_dash argument then None
     else (if is_dash_set argument then Some ([], arguments) else option_map (λ p. (argument ∷ p.0, p.1)) (split_at_set arguments))
 
--- the same globs, or the same error as one of the command line
+-- the same globs, or the same error, as an error of the command line
 abbrev pub globs_or_fault : Result (List GlobValue) ValueErrorValue → Result (List GlobValue) FaultValue
 globs_or_fault (Ok globs) = Ok globs
 globs_or_fault (Err error) = Err (value_error error)
@@ -173,14 +173,14 @@ globs_of_json text = elim (read text) [ Some value ↦ globs_or_fault (globs_of_
 abbrev pub command_of_json : Bool → List ℕ → Result CommandValue FaultValue
 command_of_json numbered text = elim (globs_of_json text) [ Ok globs ↦ Ok (record { globs = globs; numbered = numbered }) | Err fault ↦ Err fault ]
 
--- The command of the arguments after `--set`, where each one before it is `-n`: the text comes first, and each later
+-- The command of the arguments after `--set`, where each argument before it is `-n`: the text comes first, and each later
 -- argument has to be `-n`. The output is numbered if there is an `-n` on either side.
 abbrev pub command_of_text : List (List ℕ) → List (List ℕ) → Result CommandValue FaultValue
 command_of_text before [] = Err set_without_text
 command_of_text before (text ∷ others) =
     if list_all is_dash_n others then command_of_json (has_argument before || has_argument others) text else Err set_not_alone
 
--- The command of the arguments before and after `--set`. If one before it is not `-n`, that is an error: the first one of
+-- The command of the arguments before and after `--set`. An argument before it other than `-n` is an error: the first error of
 -- these arguments, or, if they have none, that `--set` is not alone.
 abbrev pub command_of_set : List (List ℕ) → List (List ℕ) → Result CommandValue FaultValue
 command_of_set before after = if list_all is_dash_n before then command_of_text before after

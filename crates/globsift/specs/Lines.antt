@@ -6,8 +6,8 @@ use Rattle.std.specs.List.{list_any, onto_first}
 abbrev pub is_lf : ℕ → Bool
 is_lf byte = byte == 10
 
--- The bytes cut at each LF, which is part of no line. A nonempty rest after the last LF is a line too. A CR is a byte of its
--- line like any other. `onto_first` puts a byte in front of the first line. If there is no line, the byte becomes one.
+-- The bytes cut at each LF, which belongs to no line. A nonempty rest after the last LF is a line too. A CR is a byte of its line
+-- like any other. `onto_first` puts a byte in front of the first line. If there is no line, the byte becomes a line.
 abbrev pub lines : List ℕ → List (List ℕ)
 lines [] = []
 lines (byte ∷ bytes) = if is_lf byte then [] ∷ lines bytes else onto_first byte (lines bytes)

@@ -1,9 +1,9 @@
--- What is written for the bytes that were read, and what was written before an error.
+-- The output for the read bytes, and the output before an error.
 --
--- A contract sees a reader as the bytes that are left in it, and a writer as the bytes that it holds. Each is `None` if the
--- reader or writer does not say, as standard input and output: then nothing is claimed about it. `Consumes old new bytes`:
--- these bytes were taken from the front of what was left. `Appends old new bytes`: these bytes were appended to what was
--- held. `IsAtEnd reader`: nothing is left.
+-- A contract sees a reader as its remaining bytes, and a writer as its bytes. Each is `None` if the reader or writer does not
+-- say, as standard input and output: then nothing is claimed about it. `Consumes old new bytes`: these bytes were taken from the
+-- front of the remaining bytes. `Appends old new bytes`: these bytes were appended to the writer's bytes. `IsAtEnd reader`:
+-- nothing is left.
 use Rattle.std.specs.Prelude.{◌≡◌, ℕ, List, [], ◌∷◌, ◌++◌, Bool, true, false, Option, decimal, flat_map, map, if◌then◌else◌}
 use Rattle.std.specs.List.{join_with_byte, list_any}
 use Rattle.std.specs.Io.KnownBytes.{Appends, Consumes, IsAtEnd}
@@ -30,12 +30,12 @@ index_text indexes = join_with_byte 44 (map decimal indexes) ++ 9 ∷ []
 abbrev pub index_column : Bool → List ℕ → List ℕ
 index_column numbered indexes = if numbered then index_text indexes else []
 
--- What is written for one line: nothing if the set does not match it. Otherwise the index column, the line and LF (10).
+-- The output for a line: nothing if the set does not match it. Otherwise the index column, the line and LF (10).
 unfoldable pub line_output : List GlobValue → Bool → List ℕ → List ℕ
 line_output globs numbered line =
     if is_matched globs line then index_column numbered (matching_indexes globs line) ++ line ++ 10 ∷ [] else []
 
--- the output for these bytes: what is written for each of their lines, in order
+-- the output for these bytes: the output for each of their lines, in order
 unfoldable pub sifted : List GlobValue → Bool → List ℕ → List ℕ
 sifted globs numbered bytes = flat_map (line_output globs numbered) (lines bytes)
 
@@ -43,7 +43,7 @@ sifted globs numbered bytes = flat_map (line_output globs numbered) (lines bytes
 unfoldable pub has_match : List GlobValue → List ℕ → Bool
 has_match globs bytes = list_any (is_matched globs) (lines bytes)
 
--- a prefix of these bytes was appended to what the writer holds: none, some or all of them
+-- a prefix of these bytes was appended to the writer's bytes: none, some or all of them
 abbrev pub AppendsPrefix : Option (List ℕ) → Option (List ℕ) → List ℕ → Type 0
 AppendsPrefix old new bytes = (out : List ℕ) × (rest : List ℕ) × Appends old new out × (out ++ rest ≡ bytes)
 
@@ -53,8 +53,8 @@ abbrev pub SiftSucceeds : List GlobValue → Bool → Option (List ℕ) → Opti
 SiftSucceeds globs numbered reader reader' writer writer' any = (bytes : List ℕ) × Consumes reader reader' bytes × IsAtEnd reader'
     × Appends writer writer' (sifted globs numbered bytes) × (any ≡ has_match globs bytes)
 
--- On an error: what was written of the output for the bytes that were read. If reading failed, the output for those up to
--- their last LF. If writing failed or memory ran out, a prefix of the output.
+-- On an error: the written part of the output for the read bytes. If reading failed, the output for the bytes up to their last
+-- LF. If writing failed or memory ran out, a prefix of the output.
 abbrev pub SiftFails : List GlobValue → Bool → Option (List ℕ) → Option (List ℕ) → Option (List ℕ) → Option (List ℕ) → SiftFault → Type 0
 SiftFails globs numbered reader reader' writer writer' Read = (bytes : List ℕ) × Consumes reader reader' bytes
     × Appends writer writer' (sifted globs numbered (through_last_lf bytes))

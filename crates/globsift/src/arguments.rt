@@ -21,14 +21,14 @@ use std::alloc::Global;
 /// Parses the arguments of a command line, without the program's name.
 ///
 /// Each of `-i`, `-s`, `-e` and `-u` turns on an option for the globs after it: `case_insensitive`, `literal_separator`,
-/// `empty_alternates` and `allow_unclosed_class`. `-b` turns off `backslash_escape`, and `-r` sets the default options
-/// again. `-n`, at any position, asks for numbered output. `--` ends these flags: each argument after it is a glob. Before
-/// it any other argument that starts with `-` is rejected, and all others are globs.
+/// `empty_alternates` and `allow_unclosed_class`. `-b` turns off `backslash_escape`, and `-r` sets the default options again.
+/// `-n`, at any position, turns on numbered output. `--` ends these flags: each argument after it is a glob. Before it any other
+/// argument that starts with `-` is rejected, and all others are globs.
 ///
-/// With `--set` the next argument, whatever it is, is the JSON text of an array of globs, and each other argument has to be
-/// `-n`. The text is read after all other arguments were checked.
+/// With `--set` the next argumentis in any case the JSON text of an array of globs, and each other argument has to be `-n`. The
+/// text is read after all other arguments were checked.
 ///
-/// Returns the first error from the left, or an error if memory runs out.
+/// Fails with the first error from the left.
 pub fn command(alloc: Global, arguments: &[String]) -> Result<Command, CommandFault>
     ensures ok { IfOk result
         (λ command. command_of (map string_bytes arguments.now) ≡ Ok (command_value command)) }

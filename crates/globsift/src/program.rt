@@ -1,4 +1,4 @@
-//! What a command line asks for, done.
+//! A command line, parsed and executed.
 
 ghost use Rattle.std.specs.Prelude.{map, IfErr, IfOk, string_bytes};
 ghost use Rattle.globsift.specs.Program.{Succeeds, Fails};
@@ -9,10 +9,10 @@ use crate::sifting::sift;
 use std::alloc::Global;
 use std::io::{Read, Write};
 
-/// Writes the lines of the reader's input that the arguments of a command line ask for, and returns whether there was one.
+/// Executes the arguments of a command line on the reader's input, and returns whether any line was written.
 ///
-/// The arguments are those of [`command`], and the lines and what is written are those of [`sift`]. Returns the error of
-/// either. If it is that of the arguments, nothing was read or written.
+/// [`command`] parses the arguments, and [`sift`] reads and writes. Returns the error of either. After an error in the arguments,
+/// nothing was read or written.
 pub fn write_matching_lines<R: Read, W: Write>(
     alloc: Global,
     arguments: &[String],

@@ -17,7 +17,7 @@ use std::alloc::{AllocError, Global};
 use std::io::{Read, Write};
 use writing::write_pending;
 
-/// How many bytes are read at once.
+/// The number of bytes that are read at once.
 const CHUNK: usize = 65536;
 
 /// Returns a vector of `count` zero bytes, to read into.
@@ -27,19 +27,19 @@ fn zeros(alloc: Global, count: usize) -> Result<Vec<u8>, AllocError>
     vec![in alloc; 0u8; count]
 }
 
-/// Writes each line of the input that the set matches, followed by LF, and returns whether there was one.
+/// Writes each line of the input that the set matches, followed by LF, and returns whether there was any.
 ///
 /// The input is cut at each LF. A nonempty rest after the last LF is a line too. A line is a path of any bytes. With
 /// `numbered`, each line starts with the indexes that the set returns for it, ascending, in decimal and separated by `,`,
 /// and a tab.
 ///
-/// All output for what was read is written before the next read, which may wait: so the output for a line is written as soon as
-/// its LF was read. For an input that does not wait these are large pieces, since up to 64 KiB are read at once. The writer is
+/// All output for the read lines is written before the next read, which may wait: so the output for a line is written as soon as
+/// its LF was read. If reads do not wait, the output comes in large pieces, since up to 64 KiB are read at once. The writer is
 /// flushed at the end alone.
 ///
-/// On success all output was written and the writer was flushed. It needs memory for what is read at once (64 KiB), pending
-/// output (68 KiB and that of one line), the beginning of a line whose end was not read yet, and a
-/// [`Searcher`](globset::Searcher) of the set. To match a line it takes no more.
+/// On success all output was written and the writer was flushed. The call allocates a buffer for input (64 KiB), for pending
+/// output (68 KiB and a line's output), and for the beginning of a line whose end was not read yet. It also makes a
+/// [`Searcher`](globset::Searcher) of the set. Matching a line allocates nothing more.
 ///
 /// # Errors
 ///
@@ -48,7 +48,7 @@ fn zeros(alloc: Global, count: usize) -> Result<Vec<u8>, AllocError>
 /// - [`SiftFault::Read`] if a read fails, or the end is not found after 2^64 - 1 reads. The output for all lines that were
 ///   read whole is written before.
 /// - [`SiftFault::Write`] if a write or the flush fails, or a write accepts no bytes. A prefix of the output was written.
-/// - [`SiftFault::OutOfMemory`] if memory runs out. A prefix of the output was written.
+/// - [`SiftFault::OutOfMemory`] if an allocation fails. A prefix of the output was written.
 pub fn sift<R: Read, W: Write>(
     alloc: Global,
     set: &GlobSet,

@@ -18,12 +18,12 @@ element_matches Folders b = is_empty b || ends_with_slash b
 element_matches Everything b = true
 element_matches (Class negated items) b = is_one_byte (class_matches negated items) b
 
--- the elements match the bytes one after another
+-- the elements match the bytes in order
 unfoldable pub elements_take : List Element → List ℕ → Bool
 elements_take [] b = is_empty b
 elements_take (e ∷ es) b = some_cut (λ x y. element_matches e x && elements_take es y) b
 
--- The class after a `[` and so many characters of negation. `None` if it is not read.
+-- The class after a `[` and this number of characters of negation. `None` if it is not read.
 abbrev pub class_after : ℕ → Bool → List ℕ → Option ElementAt
 class_after skipped negated cs = elim (class_items zero true None cs) [ None ↦ None | Some class ↦ Some (at (Class negated class.0) (skipped + class.1) Elsewhere) ]
 
@@ -31,7 +31,7 @@ class_after skipped negated cs = elim (class_items zero true None cs) [ None ↦
 abbrev pub class_at : List ℕ → Option ElementAt
 class_at cs = if is_negated cs then class_after 1 true (drop 1 cs) else class_after 0 false cs
 
--- what is at `c`, followed by `cs`
+-- the element at `c`, followed by `cs`
 unfoldable pub element_at : Bool → Place → ℕ → List ℕ → Option ElementAt
 element_at whole place c cs =
     if c == 92 then escaped_at cs
@@ -40,7 +40,8 @@ element_at whole place c cs =
     else (if c == 91 then class_at cs
     else Some (at (Literal c) 0 (place_after place c)))))
 
--- The elements of these characters, the first n of which belong to the element before them. `None` if an escape or a class is not read.
+-- The elements of these characters, where the first n belong to the element before them. `None` if an escape or a class is not
+-- read.
 unfoldable pub elements : Bool → Place → ℕ → List ℕ → Option (List Element)
 elements whole place n [] = Some []
 elements whole place (suc n) (c ∷ cs) = elements whole place n cs

@@ -1,4 +1,4 @@
--- Character classes of ignore files, as git reads them: what is after a `[`, and the bytes that it contains. All is bytes.
+-- Character classes of ignore files, as git reads them: the bytes after a `[`, and the bytes that the class contains.
 use Rattle.std.specs.Prelude.{ℕ, zero, suc, ◌+◌, Bool, false, not, ◌&&◌, ◌||◌, ◌==◌, nat_le, List, [], ◌∷◌, take, Option, Some, None, codes, if◌then◌else◌, length}
 use Rattle.std.specs.Str.{bytes_eq}
 use Rattle.std.specs.List.{list_any, position}
@@ -45,7 +45,8 @@ named_has Xdigit byte = is_ascii_hexdigit byte
 
 -- ---- items
 
--- The item contains the byte: it is the byte, a range that the byte is in, or a class with a name. A range that goes down has none.
+-- The item contains the byte: it is the byte, a range that the byte is in, or a class with a name. A range that goes down has
+-- none.
 abbrev pub item_has : ℕ → Item → Bool
 item_has byte (Member c) = byte == c
 item_has byte (Range x y) = nat_le x byte && nat_le byte y
@@ -57,41 +58,41 @@ class_matches negated items byte = not (byte == 47) && (if negated then not (lis
 
 -- ---- reading
 
--- In what follows, an item comes with the number of bytes that belong to it after its first one, and with the byte that a `-` after
--- it makes a range from, if it does.
+-- In what follows, an item comes with the number of bytes that belong to it after its first, and with the byte that a `-` after
+-- it makes a range from, if any.
 abbrev pub one_item : Item → ℕ → Option ℕ → Option ItemAt
 one_item item more last = Some (record { item = item; more = more; last = last })
 
--- a range from `x` whose end is escaped: what is after the `\`
+-- a range from `x` whose end is escaped: the rest after the `\`
 abbrev pub escaped_range_at : ℕ → List ℕ → Option ItemAt
 escaped_range_at x [] = None
 escaped_range_at x (y ∷ cs) = one_item (Range x y) 2 None
 
--- What is at a `-`, after `x`, followed by these bytes: a range, after which a `-` makes none; but a member before `]`.
+-- The item at a `-`, after `x`, followed by these bytes: a range, after which a `-` makes none; but a member before `]`.
 abbrev pub hyphen_at : ℕ → List ℕ → Option ItemAt
 hyphen_at x [] = None
 hyphen_at x (y ∷ cs) = if y == 93 then one_item (Member 45) 0 (Some 45) else (if y == 92 then escaped_range_at x cs else one_item (Range x y) 1 None)
 
--- What is at a `[:` that the `]` after `body` follows. With a `:` before that `]` it is a named class, and its name has to be one of
--- the twelve. Otherwise the `[` is a member.
+-- The item at a `[:` that the `]` after `body` follows. With a `:` before that `]` it is a named class, and its name has to be
+-- among the twelve. Otherwise the `[` is a member.
 abbrev pub name_at : List ℕ → Option ItemAt
 name_at body = if ends_with 58 body
     then elim (class_named (without_last 58 body)) [ None ↦ None | Some name ↦ one_item (Named name) (length body + 2) None ]
     else one_item (Member 91) 0 (Some 91)
 
--- what is at a `[` inside a class, followed by these bytes
+-- the item at a `[` inside a class, followed by these bytes
 abbrev pub bracket_at : List ℕ → Option ItemAt
 bracket_at [] = one_item (Member 91) 0 (Some 91)
 bracket_at (c ∷ cs) = if c == 58
     then elim (position (λ d. d == 93) cs) [ None ↦ None | Some n ↦ name_at (take n cs) ]
     else one_item (Member 91) 0 (Some 91)
 
--- what is at a `\`, followed by these bytes: the next one is a member whatever it is
+-- the item at a `\`, followed by these bytes: the next byte is always a member
 abbrev pub escape_at : List ℕ → Option ItemAt
 escape_at [] = None
 escape_at (c ∷ cs) = one_item (Member c) 1 (Some c)
 
--- what is at `c` inside a class, followed by `cs`; `last` is the byte before it that a range can begin with
+-- the item at `c` inside a class, followed by `cs`; `last` is the byte before it that a range can begin with
 unfoldable pub item_at : Option ℕ → ℕ → List ℕ → Option ItemAt
 item_at last c cs =
     if c == 92 then escape_at cs
@@ -103,18 +104,18 @@ item_at last c cs =
 abbrev pub ClassAt : Type 0
 ClassAt = List Item × ℕ
 
--- one more byte before the others
+-- another byte before the others
 abbrev pub with_character : Option ClassAt → Option ClassAt
 with_character None = None
 with_character (Some class) = Some (class.0, suc class.1)
 
--- and one that begins an item
+-- and a byte that begins an item
 abbrev pub with_item : Item → Option ClassAt → Option ClassAt
 with_item item None = None
 with_item item (Some class) = Some (item ∷ class.0, suc class.1)
 
--- The items of a class from here up to its `]`, and the number of bytes. The first n bytes belong to the item before them. The first
--- byte of a class is an item whatever it is; after it a `]` closes the class. `None` if no `]` does, or an item cannot be read.
+-- The items of a class from here up to its `]`, and the number of bytes. The first n bytes belong to the item before them. The
+-- first byte of a class is always an item; after it a `]` closes the class. `None` if no `]` does, or an item cannot be read.
 unfoldable pub class_items : ℕ → Bool → Option ℕ → List ℕ → Option ClassAt
 class_items n first last [] = None
 class_items (suc n) first last (c ∷ cs) = with_character (class_items n first last cs)

@@ -1,23 +1,23 @@
 -- The two ends of a list of bytes or characters.
 use Rattle.std.specs.Prelude.{ℕ, Bool, false, ◌==◌, List, [], ◌∷◌, if◌then◌else◌}
 
--- the first one is this one
+-- this is the first
 abbrev pub begins_with : ℕ → List ℕ → Bool
 begins_with c [] = false
 begins_with c (d ∷ ds) = c == d
 
--- the others, if the first one is this one, and otherwise all
+-- the others, if this is the first, and otherwise all
 abbrev pub without_first : ℕ → List ℕ → List ℕ
 without_first c [] = []
 without_first c (d ∷ ds) = if c == d then ds else d ∷ ds
 
--- the last one is this one
+-- this is the last
 abbrev pub ends_with : ℕ → List ℕ → Bool
 ends_with c [] = false
 ends_with c (d ∷ []) = c == d
 ends_with c (d ∷ e ∷ es) = ends_with c (e ∷ es)
 
--- the others, if the last one is this one, and otherwise all
+-- the others, if this is the last, and otherwise all
 abbrev pub without_last : ℕ → List ℕ → List ℕ
 without_last c [] = []
 without_last c (d ∷ []) = if c == d then [] else d ∷ []

@@ -14,6 +14,6 @@ translated text = record { text = encode_utf8_all text; options = glob_options }
 abbrev pub glob_of_pattern : Pattern → Option IgnorePattern
 glob_of_pattern p = option_map (λ (text : List ℕ). record { glob = translated text; is_negated = p.negated; is_folders_only = p.folders_only }) (pattern_text p)
 
--- What is returned for a line: its pattern, if it has one and the pattern has a text.
+-- The result for a line: its pattern, if it has a pattern with a text.
 unfoldable pub glob_of_line : List ℕ → Option IgnorePattern
 glob_of_line line = option_and_then glob_of_pattern (characters_of_line line)

@@ -14,8 +14,8 @@ abbrev pub onto_first : ℕ → List (List ℕ) → List (List ℕ)
 onto_first c [] = (c ∷ []) ∷ []
 onto_first c (line ∷ lines) = (c ∷ line) ∷ lines
 
--- The lines of some bytes: what is before, between and after the line feeds, so there is one more than these. The last one is
--- empty if the bytes end with a line feed.
+-- The lines of some bytes: the parts before, between and after the line feeds. The last is empty if the bytes end with a line
+-- feed.
 unfoldable pub lines_of : List ℕ → List (List ℕ)
 lines_of [] = [] ∷ []
 lines_of (c ∷ cs) = if c == 10 then [] ∷ lines_of cs else onto_first c (lines_of cs)
@@ -30,13 +30,13 @@ file_lines bytes = lines_of (without_byte_order_mark bytes)
 abbrev pub before_nul : List ℕ → List ℕ
 before_nul line = take_while (λ c. not (c == 0)) line
 
--- a byte before what is kept of the bytes after it; a space with nothing after it goes, too
+-- a byte before the kept bytes after it; a space with nothing after it goes, too
 abbrev pub before_kept : ℕ → List ℕ → List ℕ
 before_kept c [] = if c == 32 then [] else c ∷ []
 before_kept c (d ∷ ds) = c ∷ d ∷ ds
 
--- The bytes without the spaces at their end. A space after a `\` that escapes it stays, as does what is before it. Only spaces go,
--- and no other white space.
+-- The bytes without the spaces at their end. A space after a `\` that escapes it stays, and so do the bytes before it. Other
+-- white space stays.
 abbrev pub without_spaces : List ℕ → List ℕ
 without_spaces [] = []
 without_spaces (c ∷ []) = before_kept c []

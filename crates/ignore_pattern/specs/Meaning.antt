@@ -8,8 +8,8 @@ use Rattle.ignore_pattern.specs.CharacterPatterns.{pattern_of_chars, pattern_mat
 use Rattle.ignore_pattern.specs.Translation.{pattern_text}
 use Rattle.ignore_pattern.specs.Globs.{translated}
 
--- A glob that has the meaning of a pattern, which is given by the paths that it matches: the glob is read, it is not excluded, and it
--- matches these paths.
+-- A glob that has the meaning of a pattern, which is given by the paths that it matches: the glob is read, it is not excluded,
+-- and it matches these paths.
 pub record HasMeaningOf (matches : List ℕ → Bool) (g : GlobValue) : Type 0 where
   pub read : IsRead g
   pub listed : are_excluded g.options (tokens_of_glob g) ≡ false
@@ -19,7 +19,7 @@ pub record HasMeaningOf (matches : List ℕ → Bool) (g : GlobValue) : Type 0 w
 abbrev pub MatchesNothing : (List ℕ → Bool) → Type 0
 MatchesNothing matches = (path : List ℕ) → matches path ≡ false
 
--- the text of a pattern is that of a glob that has its meaning; a pattern without a text matches nothing
+-- the text of a pattern is the text of a glob with the same meaning; a pattern without a text matches nothing
 abbrev pub HasMeaning : Pattern → Option (List ℕ) → Type 0
 HasMeaning p None = MatchesNothing (pattern_matches p)
 HasMeaning p (Some text) = HasMeaningOf (pattern_matches p) (translated text)

@@ -1,5 +1,5 @@
--- The pattern that git reads a line of an ignore file as, the paths that it matches, which are those below the folder of the file,
--- and the patterns that a glob can stand for.
+-- The pattern that git reads a line of an ignore file as, the paths that it matches, which are those below the folder of the
+-- file, and the patterns that a glob can stand for.
 use Rattle.std.specs.Prelude.{ℕ, zero, Bool, true, false, not, ◌&&◌, ◌==◌, List, [], ◌∷◌, Option, Some, None, if◌then◌else◌}
 use Rattle.std.specs.List.{list_any}
 use Rattle.std.specs.Option.{option_map_or}
@@ -12,13 +12,13 @@ use Rattle.ignore_pattern.specs.declared.item.Item.{Item}
 use Rattle.ignore_pattern.specs.declared.item.Item.TheVariants.{Member, Range, Named}
 use Rattle.ignore_pattern.specs.declared.place.Place.TheVariants.{Start}
 
--- what a line says
+-- the pattern of a line
 pub record Pattern : Type 0 where
-  -- it begins with `!`: what it matches is kept, not ignored
+  -- it begins with `!`: matched paths are kept, not ignored
   pub negated : Bool
   -- it ends with `/`: it is for folders alone
   pub folders_only : Bool
-  -- There is another `/` in it, so it is matched against whole paths. Without one it is matched against last components.
+  -- There is another `/` in it, so it is matched against whole paths. Without it the pattern is matched against last components.
   pub whole : Bool
   pub elements : List Element
 
@@ -34,8 +34,8 @@ pattern_with negated folders_only whole None = None
 pattern_with negated folders_only whole (Some []) = None
 pattern_with negated folders_only whole (Some (e ∷ es)) = Some (record { negated = negated; folders_only = folders_only; whole = whole; elements = e ∷ es })
 
--- The pattern of bytes that have no `!` before them and no `/` after them. One `/` at their start is no part of the pattern, but
--- makes it one for whole paths.
+-- The pattern of bytes that have no `!` before them and no `/` after them. A `/` at their start is no part of the pattern, but
+-- makes it a pattern for whole paths.
 abbrev pub pattern_between : Bool → Bool → List ℕ → Option Pattern
 pattern_between negated folders_only cs = let whole = has_slash cs in pattern_with negated folders_only whole (elements whole Start zero (without_first 47 cs))
 
@@ -53,7 +53,7 @@ pattern_of_line line = pattern_of_text (line_text line)
 
 -- ---- matching
 
--- The pattern matches the path. That it is for folders alone is left to who asks.
+-- The pattern matches the path. The caller checks whether the pattern is for folders alone.
 unfoldable pub pattern_matches : Pattern → List ℕ → Bool
 pattern_matches p path = elements_take p.elements (if p.whole then path else last_component path)
 
@@ -78,6 +78,6 @@ has_odd_range (Class negated items) = list_any is_odd items
 abbrev pub has_glob : Pattern → Bool
 has_glob p = not (list_any has_odd_range p.elements)
 
--- The pattern of a line that a glob can stand for; none of any other line. The text of the line is UTF-8, as that of a glob is.
+-- The pattern of a line that a glob can stand for; none of any other line. The text of the line is UTF-8, as a glob's text is.
 unfoldable pub read_pattern : List ℕ → Option Pattern
 read_pattern line = if is_utf8 (line_text line) && option_map_or has_glob (pattern_of_line line) true then pattern_of_line line else None

@@ -15,7 +15,7 @@ glob_options = record default_options { literal_separator = true; empty_alternat
 
 -- ---- classes
 
--- the ASCII characters that the body of the glob's class has: those of the items, without `/`; of a negated class with `/`
+-- the ASCII characters in the body of the glob's class: the items' characters, without `/`; in a negated class with `/`
 abbrev pub is_written : Bool → List Item → ℕ → Bool
 is_written negated items c = if c == 47 then negated else list_any (item_has c) items
 
@@ -23,7 +23,7 @@ is_written negated items c = if c == 47 then negated else list_any (item_has c) 
 abbrev pub has_place : ℕ → Bool
 has_place c = (c == 93 || c == 33) || (c == 94 || c == 45)
 
--- those of these characters that are written
+-- the written characters among these
 abbrev pub written : Bool → List Item → List ℕ → List ℕ
 written negated items cs = filter (is_written negated items) cs
 
@@ -31,12 +31,12 @@ written negated items cs = filter (is_written negated items) cs
 abbrev pub spelled : ℕ → ℕ → List ℕ
 spelled x y = x ∷ 45 ∷ y ∷ []
 
--- the character from U+0080 to U+00BF whose last byte is that of `x`; U+0080 if `x` is ASCII
+-- the character from U+0080 to U+00BF with the same last byte as `x`; U+0080 if `x` is ASCII
 abbrev pub first_beyond : ℕ → ℕ
 first_beyond x = if nat_lt x 128 then 128 else 128 + x % 64
 
--- The bytes of an item that are not ASCII, as ranges of a glob's class. In UTF-8 a character from U+0080 to U+00BF is C2 and a byte from 80
--- to BF. C2 is in every range that ends with a character that is not ASCII.
+-- The bytes of an item that are not ASCII, as ranges of a glob's class. In UTF-8 a character from U+0080 to U+00BF is C2 and a
+-- byte from 80 to BF. C2 is in every range that ends with a character that is not ASCII.
 abbrev pub beyond_ascii : Item → List ℕ
 beyond_ascii (Member c) = cond (nat_lt c 128) [] (spelled c c)
 beyond_ascii (Named name) = []
@@ -48,31 +48,31 @@ beyond_ascii (Range x y) =
 unfoldable pub ascii : List ℕ
 ascii = range_with_len 0 128
 
--- what is in a class before `!`, `^` and `-`
+-- the part of a class before `!`, `^` and `-`
 abbrev pub body_start : Bool → List Item → List ℕ
 body_start negated items = (written negated items (93 ∷ []) ++ filter (λ c. not (has_place c) && is_written negated items c) ascii) ++ flat_map beyond_ascii items
 
--- what is in a class after that
+-- the part of a class after that
 abbrev pub body_end : Bool → List Item → List ℕ
 body_end negated items = written negated items (33 ∷ 94 ∷ 45 ∷ [])
 
--- the branches of a choice after the first one, each an escaped character, and `}`
+-- the branches of a choice after the first, each an escaped character, and `}`
 abbrev pub other_choices : List ℕ → List ℕ
 other_choices [] = 125 ∷ []
 other_choices (c ∷ cs) = 44 ∷ 92 ∷ c ∷ other_choices cs
 
--- one of these characters, as a choice in braces; `None` if there are none
+-- any of these characters, as a choice in braces; `None` if there are none
 abbrev pub choice : List ℕ → Option (List ℕ)
 choice [] = None
 choice (c ∷ cs) = Some (123 ∷ 92 ∷ c ∷ other_choices cs)
 
--- A class that is not negated, by the two parts of its body. It cannot begin with `!` or `^`, so what has nothing before these is a
--- choice. `None` if nothing is in it.
+-- A class that is not negated, by the two parts of its body. It cannot begin with `!` or `^`, so what has nothing before these is
+-- a choice. `None` if nothing is in it.
 abbrev pub positive : List ℕ → List ℕ → Option (List ℕ)
 positive [] end = choice end
 positive (c ∷ cs) end = Some (91 ∷ c ∷ (cs ++ end ++ 93 ∷ []))
 
--- The text of a class, or `None` if it matches no byte. The body of a negated one begins with `]` or has `/`.
+-- The text of a class, or `None` if it matches no byte. The body of a negated class begins with `]` or has `/`.
 unfoldable pub class_text : Bool → List Item → Option (List ℕ)
 class_text false items = positive (body_start false items) (body_end false items)
 class_text true items = Some (91 ∷ 33 ∷ (body_start true items ++ body_end true items ++ 93 ∷ []))
@@ -87,8 +87,8 @@ is_special c = ((c == 63 || c == 42) || (c == 91 || c == 93)) || ((c == 123 || c
 abbrev pub literal_text : ℕ → List ℕ
 literal_text c = if is_special c then 92 ∷ c ∷ [] else c ∷ []
 
--- The text of an element inside a glob. In braces `**/` begins a branch, so it is nothing or ends with `/`, wherever the braces are; and
--- `*{,/**}` is any bytes.
+-- The text of an element inside a glob. In braces `**/` begins a branch, so it is nothing or ends with `/`, wherever the braces
+-- are; and `*{,/**}` is any bytes.
 unfoldable pub element_text : Element → Option (List ℕ)
 element_text (Literal c) = Some (literal_text c)
 element_text Any = Some (codes "?")
@@ -97,7 +97,7 @@ element_text Folders = Some (codes "{**/}")
 element_text Everything = Some (codes "*{,/**}")
 element_text (Class negated items) = class_text negated items
 
--- one text before another
+-- a text before another
 abbrev pub joined : Option (List ℕ) → Option (List ℕ) → Option (List ℕ)
 joined None rest = None
 joined (Some front) None = None
@@ -123,7 +123,7 @@ abbrev pub whole_text : List Element → Option (List ℕ)
 whole_text (Folders ∷ es) = after_folders es
 whole_text es = elements_text es
 
--- The characters of the glob of a pattern, or `None` if the pattern matches no path. One that is for last components is matched after
--- any folders.
+-- The characters of the glob of a pattern, or `None` if the pattern matches no path. A pattern for last components is matched
+-- after any folders.
 unfoldable pub pattern_text : Pattern → Option (List ℕ)
 pattern_text p = if p.whole then whole_text p.elements else after_folders p.elements

@@ -14,8 +14,8 @@ fn closes(first: bool, c: char) -> bool
     c == ']' && !first
 }
 
-/// Returns the items of a class that begins with `cs`, after its `[` and its negation, and how many characters it has with
-/// its `]`; `None` if it cannot be read. Returns an error if memory runs out.
+/// Returns the items of a class that begins with `cs`, after its `[` and its negation, and its number of characters with its `]`.
+/// `None` if it cannot be read.
 pub fn class_items(alloc: Global, cs: &[char]) -> Result<Option<(Vec<Item>, usize)>, AllocError>
     ensures value { IfOk result
         (λ r. option_map (λ class. (class.0.items, class.1)) r

@@ -122,7 +122,7 @@ fn push_spelled(out: &mut Vec<char>, x: char, y: char) -> Result<(), AllocError>
     Ok(())
 }
 
-/// Returns the character from U+0080 to U+00BF whose last byte is that of `x`, or U+0080 if `x` is ASCII.
+/// Returns the character from U+0080 to U+00BF with the same last byte as `x`, or U+0080 if `x` is ASCII.
 fn first_beyond(x: char) -> char
     ensures { result ≡ first_beyond x }
 {
@@ -175,7 +175,7 @@ fn push_beyond(out: &mut Vec<char>, items: &[Item]) -> Result<(), AllocError>
     Ok(())
 }
 
-/// Returns what is in the class before `!`, `^` and `-`.
+/// Returns the class's bytes before `!`, `^` and `-`.
 fn body_start(alloc: Global, negated: bool, items: &[Item]) -> Result<Vec<char>, AllocError>
     ensures { IfOk result (λ v. v.items ≡ body_start negated items.now) }
 {
@@ -252,8 +252,6 @@ fn push_positive(out: &mut String, start: &[char], end: &[char]) -> Result<bool,
 
 /// Writes a class of a pattern as a class of a glob, or as a choice in braces. Returns whether anything is in it. This takes
 /// 128 steps for each item, and memory for the items' characters.
-///
-/// Returns an error if memory runs out.
 #[tactic(auto, unfolding(crate::specs::Translation::class_text))]
 pub fn push_class(
     alloc: Global,

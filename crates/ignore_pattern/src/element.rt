@@ -18,7 +18,7 @@ pub enum Element {
     Literal(char),
     /// `?`
     Any,
-    /// One `*` or several.
+    /// A run of `*`.
     Star,
     /// `**/` where the stars stand for folders.
     Folders,
@@ -28,18 +28,17 @@ pub enum Element {
     Class(bool, Vec<Item>),
 }
 
-/// What was read of a pattern at one position.
+/// The element at a position of a pattern.
 #[derive(Drop)]
 pub struct ElementAt {
     pub element: Element,
-    /// How many characters belong to the element after its first one.
+    /// The number of characters that belong to the element after its first.
     pub more: usize,
     /// The place of the character after it.
     pub place: Place,
 }
 
-/// Returns what is at a run of stars that can stand for folders: `more` of them, at least one, after the first one, and then
-/// `rest`.
+/// Returns the element at a run of stars that can stand for folders: a first star, `more` others, at least one, and then `rest`.
 fn crossing_at(more: usize, rest: &[char]) -> ElementAt
     requires { more + length rest.now < 2 ^ 64 }
     ensures value { at_of result ≡ crossing_at more rest.now }
@@ -64,7 +63,7 @@ fn crossing_at(more: usize, rest: &[char]) -> ElementAt
     }
 }
 
-/// Returns what is at a run of stars: `more` of them after the first one, and then `rest`.
+/// Returns the element at a run of stars: a first star, `more` others, and then `rest`.
 fn run_at(crosses: bool, more: usize, rest: &[char]) -> ElementAt
     requires { more + length rest.now < 2 ^ 64 }
     ensures value { at_of result ≡ run_at crosses more rest.now }
@@ -121,7 +120,7 @@ fn class_at(alloc: Global, cs: &[char]) -> Result<Option<ElementAt>, AllocError>
     }
 }
 
-/// Returns what is after a `\`, before `cs`.
+/// Returns the element after a `\`, before `cs`.
 fn escaped_at(cs: &[char]) -> Option<ElementAt>
     ensures value { option_map at_of result ≡ escaped_at cs.now }
     ensures within { IfSome result (λ e. e.more ≤ length cs.now) }
@@ -136,8 +135,8 @@ fn escaped_at(cs: &[char]) -> Option<ElementAt>
     }
 }
 
-/// Returns what is at `c`, before `cs`; `None` if it cannot be read. `whole` says whether the pattern is matched against whole
-/// paths. Returns an error if memory runs out.
+/// Returns the element at `c`, before `cs`; `None` if it cannot be read. `whole` says whether the pattern is matched against
+/// whole paths.
 #[tactic(auto, unfolding(crate::specs::CharacterElements::element_at))]
 pub fn element_at(
     alloc: Global,

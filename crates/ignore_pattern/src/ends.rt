@@ -1,9 +1,9 @@
-//! The ends of what is read.
+//! The ends of lines.
 
 ghost use Rattle.std.specs.Prelude.{◌≡◌, true, false, IfNone, IfSome};
 ghost use Rattle.ignore_pattern.specs.Ends.{ends_with, without_last};
 
-/// Returns the characters before the last one, if that is `c`.
+/// Returns the characters before the last, if that is `c`.
 pub fn before_last(c: char, cs: &[char]) -> Option<&[char]>
     ensures some { IfSome result
         (λ front. (ends_with c cs.now ≡ true) × (front.now ≡ without_last c cs.now)) }
@@ -15,7 +15,7 @@ pub fn before_last(c: char, cs: &[char]) -> Option<&[char]>
     }
 }
 
-/// Returns the bytes without the last one, if that is `byte`.
+/// Returns the bytes without the last, if that is `byte`.
 pub fn without_last(byte: u8, bytes: &[u8]) -> &[u8]
     ensures { result.now ≡ without_last byte bytes.now }
 {

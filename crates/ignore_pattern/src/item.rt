@@ -13,7 +13,7 @@ use crate::ends::before_last;
 pub enum Item {
     /// A character.
     Member(char),
-    /// Two characters with a `-` between them. The first one is also an item before this one, or the end of a range before it.
+    /// Two characters with a `-` between them. The first is also an item before this range, or the end of a range before it.
     Range(char, char),
     /// `[:..:]`
     Named(ClassName),
@@ -36,17 +36,17 @@ pub enum ClassName {
     Xdigit,
 }
 
-/// What was read of a class at one position.
+/// The item at a position of a class.
 #[derive(Clone, Copy)]
 pub struct ItemAt {
     pub item: Item,
-    /// How many characters belong to the item after its first one.
+    /// The number of characters that belong to the item after its first.
     pub more: usize,
     /// The character that a `-` after the item makes a range from.
     pub last: Option<char>,
 }
 
-/// Returns whether the characters are those of an ASCII word.
+/// Returns whether the characters spell an ASCII word.
 fn spells(name: &[char], word: &[u8]) -> bool
     ensures { result ≡ bytes_eq name.now word.now }
 {
@@ -102,7 +102,7 @@ fn is_odd_range(x: char, y: char) -> bool
     odd_start && odd_end
 }
 
-/// Returns the range from `x` to `y`, to which `more` characters belong after its `-`.
+/// Returns the range from `x` to `y`, with `more` characters after its `-`.
 fn range_at(x: char, y: char, more: usize) -> Option<ItemAt>
     ensures value { result ≡ range_at x y more }
     ensures within { IfSome result (λ i. i.more ≡ more) }
@@ -118,7 +118,7 @@ fn range_at(x: char, y: char, more: usize) -> Option<ItemAt>
     })
 }
 
-/// Returns the character as an item, to which `more` characters belong after its first one.
+/// Returns the character as an item, with `more` characters after its first.
 fn member(c: char, more: usize) -> ItemAt
     ensures { result ≡ record { item = Member c; more = more; last = Some c } }
 {
@@ -129,7 +129,7 @@ fn member(c: char, more: usize) -> ItemAt
     }
 }
 
-/// Returns the range from `x` whose end is escaped, where `cs` is what is after the `\`.
+/// Returns the range from `x` whose end is escaped, where `cs` follows the `\`.
 fn escaped_range_at(x: char, cs: &[char]) -> Option<ItemAt>
     ensures value { result ≡ escaped_range_at x cs.now }
     ensures within { IfSome result (λ i. i.more ≤ length cs.now + 1) }
@@ -140,7 +140,7 @@ fn escaped_range_at(x: char, cs: &[char]) -> Option<ItemAt>
     }
 }
 
-/// Returns what is at a `-` that follows the character `x`, before `cs`.
+/// Returns the item at a `-` that follows the character `x`, before `cs`.
 fn hyphen_at(x: char, cs: &[char]) -> Option<ItemAt>
     ensures value { result ≡ hyphen_at x cs.now }
     ensures within { IfSome result (λ i. i.more ≤ length cs.now) }
@@ -155,7 +155,7 @@ fn hyphen_at(x: char, cs: &[char]) -> Option<ItemAt>
     }
 }
 
-/// Returns what is at a `[:` that the `]` after `body` follows.
+/// Returns the item at a `[:` that the `]` after `body` follows.
 fn name_at(body: &[char]) -> Option<ItemAt>
     ensures value { result ≡ name_at body.now }
     ensures within { IfSome result (λ i. i.more ≤ length body.now + 2) }
@@ -173,7 +173,7 @@ fn name_at(body: &[char]) -> Option<ItemAt>
     }
 }
 
-/// Returns what is at a `[` inside a class, before `cs`.
+/// Returns the item at a `[` inside a class, before `cs`.
 fn bracket_at(cs: &[char]) -> Option<ItemAt>
     ensures value { result ≡ bracket_at cs.now }
     ensures within { IfSome result (λ i. i.more ≤ length cs.now) }
@@ -195,7 +195,7 @@ fn first_closer(cs: &[char]) -> Option<usize>
     cs.iter().position(|c| *c == ']')
 }
 
-/// Returns what is at a `\` inside a class, before `cs`.
+/// Returns the item at a `\` inside a class, before `cs`.
 fn escape_at(cs: &[char]) -> Option<ItemAt>
     ensures value { result ≡ escape_at cs.now }
     ensures within { IfSome result (λ i. i.more ≤ length cs.now) }
@@ -206,7 +206,7 @@ fn escape_at(cs: &[char]) -> Option<ItemAt>
     }
 }
 
-/// Returns what is at `c` inside a class, before `cs`, where a `-` can make a range from `last`.
+/// Returns the item at `c` inside a class, before `cs`, where a `-` can make a range from `last`.
 #[tactic(auto, unfolding(crate::specs::CharacterClasses::item_at))]
 pub fn item_at(last: Option<char>, c: char, cs: &[char]) -> Option<ItemAt>
     ensures value { result ≡ item_at last c cs.now }

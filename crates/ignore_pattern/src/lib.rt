@@ -29,22 +29,22 @@
 //! | `\` | the character after it | that character, escaped if it has a meaning in globs |
 //! | `{`, `}`, `,` and others | themselves | the same, escaped if need be |
 //!
-//! Two and more stars stand for folders or for everything only in a pattern with a `/` in it that is not its last character, and
-//! there only after a `/`, or if all characters before them are plain: not escaped, and none of `?`, `*` and `[`.
+//! Two and more stars stand for folders or for everything only in a pattern with a `/` in it that is not its last character. They
+//! have to follow a `/`, or all characters before them have to be plain: not escaped, and none of `?`, `*` and `[`.
 //!
-//! In a class a `\` escapes, the first character is a member whatever it is, and the twelve names in `[:..:]` have ASCII
-//! characters. A range that goes down has no more than its first character, if it is ASCII. A class is about bytes: a character
-//! that is not ASCII stands for each of its bytes in UTF-8. A pattern with a `\` at its end, a class that nothing closes or with
-//! an unknown name matches nothing.
+//! In a class a `\` escapes, the first character is always a member, and the twelve names in `[:..:]` have ASCII characters. A
+//! range that goes down has no more than its first character, if it is ASCII. A class is about bytes: a character that is not
+//! ASCII stands for each of its bytes in UTF-8. A pattern with a `\` at its end, a class that nothing closes or with an unknown
+//! name matches nothing.
 //!
 //! # Differences from git
 //!
-//! The definition says what git reads a line as, byte by byte. A glob can stand for each pattern, but for those of two kinds of
-//! lines, and for these nothing is returned:
+//! The definition says git's reading of a line, byte by byte. A glob can stand for each pattern, except in two kinds of lines,
+//! where nothing is returned:
 //!
 //! - A line that is not UTF-8, as the text of a glob is.
-//! - A line with a range from a character whose last byte is BF to one from U+0080 to U+00BF, as `[¿-¿]`. git gives such a range
-//!   the bytes from BF to C2, and so C0 and C1, which no character has.
+//! - A line with a range from a character whose last byte is BF to a character from U+0080 to U+00BF, as `[¿-¿]`. Git gives such
+//!   a range the bytes from BF to C2. These include C0 and C1, which no character has.
 #![tactic(auto)]
 
 mod class;

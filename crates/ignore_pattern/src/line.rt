@@ -45,7 +45,7 @@ fn without_spaces(line: &[u8]) -> &[u8]
     line.split_at(kept).0
 }
 
-/// Returns what is after `byte`, of what follows it: a `\` has one more byte with it, if there is one.
+/// Returns the bytes after `byte`, which `after` follows: a `\` takes a next byte with it, if there is any.
 fn after_byte(byte: u8, after: &[u8]) -> &[u8]
     ensures value { result.now ≡ (if byte == 92 then drop 1 after.now else after.now) }
     ensures within { length result.now ≤ length after.now }

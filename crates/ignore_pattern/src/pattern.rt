@@ -10,12 +10,12 @@ use crate::reading::read_line;
 use globset_glob::{Error, Glob, GlobBuilder};
 use std::alloc::Global;
 
-/// What a line of an ignore file says, with the glob that has its meaning.
+/// The pattern of a line of an ignore file, with the glob that has its meaning.
 #[derive(Debug, Drop)]
 pub struct IgnorePattern {
     /// The glob. It matches the paths below the folder of the ignore file that the pattern matches.
     pub glob: Glob,
-    /// Whether the line begins with `!`: what it matches is kept, not ignored.
+    /// Whether the line begins with `!`: paths that it matches are kept, not ignored.
     pub is_negated: bool,
     /// Whether the line ends with `/`: it is for folders alone.
     pub is_folders_only: bool,
@@ -23,15 +23,15 @@ pub struct IgnorePattern {
 
 /// Returns the pattern of a line, without its line feed.
 ///
-/// Returns `None` if the line has no pattern, if its pattern matches nothing, or if no glob can stand for it: if it is not UTF-8, or
-/// has a range of the bytes from BF to C2.
+/// Returns `None` if the line has no pattern, or if its pattern matches nothing. It also returns `None` if no glob can stand for
+/// the line: if it is not UTF-8, or has a range of the bytes from BF to C2.
 ///
-/// This takes memory linear in the length of the line, and time linear in it but for classes: 128 steps for each item of one, and
-/// for each `[:` in one a search for the next `]`.
+/// This takes memory linear in the length of the line. The time is also linear, except for classes: each item of a class takes
+/// 128 steps, and each `[:` in a class a search for the next `]`.
 ///
 /// # Errors
 ///
-/// Returns an error if memory runs out, and no other: the text of the glob can always be read.
+/// Fails only if memory runs out: the text of the glob can always be read.
 pub fn pattern_of_line(alloc: Global, line: &[u8]) -> Result<Option<IgnorePattern>, Error>
     ensures pattern { IfOk result (λ r. IsPatternOf line.now r) }
     ensures value { IfOk result (λ r. r ≡ glob_of_line line.now) }

@@ -12,10 +12,8 @@ use crate::place::Place;
 use crate::text::push_elements;
 use std::alloc::{AllocError, Global};
 
-/// Returns the text of the glob for a pattern of these characters; `None` if the pattern cannot be read or matches nothing, or
+/// Returns the text of the glob for a pattern of these characters. `None` if the pattern cannot be read or matches nothing, or
 /// there are no characters. `whole` says whether the pattern is matched against whole paths.
-///
-/// Returns an error if memory runs out.
 pub fn text_of(alloc: Global, whole: bool, cs: &[char]) -> Result<Option<String>, AllocError>
     ensures { IfOk result
         (λ r. option_map string_bytes r
@@ -42,7 +40,7 @@ fn whole_text(alloc: Global, cs: &[char]) -> Result<Option<String>, AllocError>
     }
 }
 
-/// Returns how many characters belong to the `**/` at the start, if there is one.
+/// Returns the number of characters of the `**/` at the start, if there is any.
 fn folders_at(cs: &[char]) -> Option<usize>
     ensures value { result ≡ folders_at cs.now }
     ensures within { IfSome result (λ n. n ≤ length cs.now) }
@@ -56,7 +54,7 @@ fn folders_at(cs: &[char]) -> Option<usize>
     }
 }
 
-/// Returns that of a run of stars, `more` of them after the first one, before `rest`.
+/// Returns this number for a run of stars, `more` of them after the first, before `rest`.
 fn folders_after(more: usize, rest: &[char]) -> Option<usize>
     requires { more + length rest.now < 2 ^ 64 - 1 }
     ensures value { result ≡ folders_after more rest.now }

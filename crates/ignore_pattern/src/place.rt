@@ -14,7 +14,7 @@ pub enum Place {
 }
 
 impl Place {
-    /// Returns the place of the character after a plain one at this place.
+    /// Returns the place of the character after a plain character at this place.
     pub fn after(self, c: char) -> Place
         ensures { result ≡ place_after self c }
     {
@@ -24,7 +24,7 @@ impl Place {
         }
     }
 
-    /// Returns the place of the character after one that a `\` escapes.
+    /// Returns the place of the character after an escaped character.
     pub fn after_escaped(c: char) -> Place
         ensures { result ≡ place_after_escaped c }
     {

@@ -1,4 +1,4 @@
-//! What a line says.
+//! The reading of a line.
 
 ghost use Rattle.std.specs.Prelude.{◌≡◌, zero, IfOk};
 ghost use Rattle.std.specs.Option.{option_map, option_and_then};
@@ -15,7 +15,7 @@ use crate::pattern_text::text_of;
 use std::alloc::{AllocError, Global};
 use std::str;
 
-/// What a line of an ignore file says, with the text of the glob that has its meaning.
+/// The pattern of a line of an ignore file, with the text of the glob that has its meaning.
 #[derive(Drop)]
 pub struct PatternText {
     pub text: String,
@@ -23,8 +23,7 @@ pub struct PatternText {
     pub is_folders_only: bool,
 }
 
-/// Returns what a line says, without its line feed; `None` if it has no pattern, or its pattern matches nothing. Returns an error
-/// if memory runs out.
+/// Returns the pattern of a line, without its line feed; `None` if it has no pattern, or its pattern matches nothing.
 pub fn read_line(alloc: Global, line: &[u8]) -> Result<Option<PatternText>, AllocError>
     ensures { IfOk result (λ r. option_map with_glob r ≡ glob_of_line line.now) }
 {
@@ -37,7 +36,7 @@ pub fn read_line(alloc: Global, line: &[u8]) -> Result<Option<PatternText>, Allo
     }
 }
 
-/// Returns the characters of a text. Returns an error if memory runs out.
+/// Returns the characters of a text.
 fn characters(alloc: Global, text: &str) -> Result<Vec<char>, AllocError>
     ensures { IfOk result (λ v. v.items ≡ chars text.now) }
 {
@@ -57,7 +56,7 @@ fn pattern_of_chars(alloc: Global, cs: &[char]) -> Result<Option<PatternText>, A
     }
 }
 
-/// Returns the pattern of the characters after the `!`, if there is one.
+/// Returns the pattern of the characters after the `!`, if there is any.
 fn pattern_after(
     alloc: Global,
     is_negated: bool,

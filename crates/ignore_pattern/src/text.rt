@@ -56,7 +56,7 @@ pub fn push_element(alloc: Global, out: &mut String, element: &Element) -> Resul
     Ok(true)
 }
 
-/// Writes an element that was read. Returns what `ElementAt` says of what is after it, or `None` if the element has no text.
+/// Writes an element that was read. Returns the rest that `ElementAt` describes, or `None` if the element has no text.
 fn push_found(
     alloc: Global,
     out: &mut String,
@@ -99,9 +99,7 @@ fn push_next(
     }
 }
 
-/// Writes the elements of these characters. Returns false if one cannot be read, or matches nothing.
-///
-/// Returns an error if memory runs out.
+/// Writes the elements of these characters. Returns false if any of them cannot be read, or matches nothing.
 pub fn push_elements(
     alloc: Global,
     out: &mut String,

@@ -17,7 +17,7 @@ fn globs(alloc: Global) -> Result<Searcher> {
     Ok(Searcher::new(alloc, &GlobSet::new(alloc, [&c, &rust])?)?)
 }
 
-/// Writes each line that matches, and returns 0 if there was one, otherwise 1.
+/// Writes each line that matches, and returns 0 if there was any, otherwise 1.
 fn keep_lines(rt: &(impl Input + Print + AllocGlobal)) -> Result<u8> {
     let alloc = rt.alloc();
     let mut globs = globs(alloc)?;

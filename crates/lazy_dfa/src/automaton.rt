@@ -1,4 +1,4 @@
-//! What the caches of all threads are made for.
+//! Automata that caches of several threads share.
 
 ghost use Rattle.std.specs.Prelude.{◌≡◌, ℕ, ◌+◌, ◌*◌, ◌≤◌, ◌⊎◌, ◌↔◌, ◌++◌, ◌∷◌, [], List, length, IsTrue, IsFalse, IsOk, OnOk, IfOk, IfSome};
 ghost use Rattle.bit_sets.specs.Indexes.{has_index, index_capacity};
@@ -54,8 +54,8 @@ impl Model for LazyDfa {
 impl LazyDfa {
     /// Makes a deterministic automaton that finds what an automaton finds.
     ///
-    /// It reads each state, and takes about as much memory as the automaton. Returns an error if memory runs out, or if twice as many
-    /// indexes are too many for a `usize`, for which there is no memory either.
+    /// It reads each state, and allocates about as much as the automaton has. It also fails if twice the number of indexes does
+    /// not fit a `usize`.
     pub fn new(alloc: Global, automaton: &Nfa) -> Result<LazyDfa, AllocError>
         ensures { IfOk result (λ dfa. dfa.nfa ≡ automaton.now) }
     {
@@ -121,11 +121,11 @@ impl LazyDfa {
         &self.indexes
     }
 
-    /// Puts the index of each end that a text leads to into a set, beside what it holds. It steps from one set of states to the next,
-    /// and makes no rows.
+    /// Puts the index of each end that a text leads to into a set, next to its contents. It steps from a set of states to the
+    /// next, and makes no rows.
     ///
-    /// What the sets of states held has no effect; their room grows to the states. It is at most `(text bytes + 1) * states` visits.
-    /// Returns an error if memory runs out, and so none if they have room for all states.
+    /// The old contents of the sets of states have no effect; their room grows to the states. It is at most `(text bytes + 1) *
+    /// states` visits. It allocates nothing if they have room for all states.
     pub fn find(
         &self,
         text: &[u8],
@@ -150,9 +150,9 @@ impl LazyDfa {
         Ok(())
     }
 
-    /// Returns whether a text leads to some end. It stops at the first that is found whatever follows.
+    /// Returns whether a text leads to some end. It stops as soon as the rest cannot change that.
     ///
-    /// What is said of [`LazyDfa::find`] holds for it.
+    /// It has the cost of [`LazyDfa::find`].
     pub fn is_match(
         &self,
         text: &[u8],
@@ -173,7 +173,7 @@ impl LazyDfa {
 
     /// Returns whether some text that begins with `text` and then `byte` leads to some end.
     ///
-    /// It is at most `(text bytes + 2) * states` visits. What else is said of [`LazyDfa::find`] holds for it.
+    /// It is at most `(text bytes + 2) * states` visits. Otherwise it has the cost of [`LazyDfa::find`].
     pub fn can_match_after(
         &self,
         text: &[u8],

@@ -1,4 +1,4 @@
-//! The memory of one thread, and what it answers.
+//! The memory of a thread, and its answers.
 
 ghost use Rattle.std.specs.Prelude.{◌≡◌, ℕ, ◌+◌, ◌*◌, ◌≤◌, ◌⊎◌, ◌↔◌, ◌++◌, ◌∷◌, [], length, IsTrue, IfOk, IfSome, None};
 ghost use Rattle.std.specs.Arc.{arc_value};
@@ -15,7 +15,7 @@ use std::alloc::{AllocError, Global};
 use std::marker::Model;
 use std::sync::Arc;
 
-/// The rows that the texts of one thread needed so far, in a memory of fixed size.
+/// The rows that the texts of a thread needed so far, in a memory of fixed size.
 ///
 /// A cache is made for one automaton, which it shares. Contracts see the automaton whose ends are found: what earlier calls left has
 /// no effect on an answer.
@@ -67,12 +67,12 @@ impl Cache {
         })
     }
 
-    /// Returns whether rows were forgotten since it was made, because there was no room for one more.
+    /// Returns whether rows were forgotten since it was made, because there was no room for another.
     pub fn has_forgotten(&self) -> bool {
         self.rows.has_forgotten()
     }
 
-    /// Returns how many bytes its rows may take. Beside these it takes a few bits for each state and for each index.
+    /// Returns the bytes that its rows may take. It also has a few bits for each state and for each index.
     pub fn bytes(&self) -> usize {
         self.rows.bytes()
     }
@@ -116,7 +116,7 @@ impl Cache {
             .find_known(automaton, self.dfa.indexes(), text, found, visits)
     }
 
-    /// Returns whether a text leads to some end. It stops at the first that is found whatever follows.
+    /// Returns whether a text leads to some end. It stops as soon as the rest cannot change that.
     ///
     /// It is as many visits as [`Cache::find`] makes, and takes no memory.
     pub fn is_match(&mut self, text: &[u8], visits: &mut Visits) -> bool

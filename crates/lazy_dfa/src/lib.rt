@@ -1,10 +1,10 @@
 //! Runs of automata over texts: by rows of a deterministic automaton that are made while texts are read, in a memory of fixed size,
 //! or by sets of states.
 //!
-//! A [`LazyDfa`] is made from an [`byte_nfa::Nfa`], and finds exactly what that finds. It can be shared by threads. A [`Cache`] holds
-//! the rows that its texts needed so far: all rows of an automaton may be very many more than texts ever lead to. A text for which
-//! rows are forgotten twice is read on by sets of states, and so is each text by the calls of a [`LazyDfa`], which need no cache but
-//! [`StateSets`].
+//! A [`LazyDfa`] is made from a [`byte_nfa::Nfa`], and finds the same ends. Threads can share it. A [`Cache`] holds the rows that
+//! its texts needed so far: an automaton may have far more rows than texts ever lead to. If rows are forgotten twice in a text, a
+//! part of the text is read by sets of states, and then the run goes back to rows. The calls of a [`LazyDfa`] have no cache: they
+//! read each text by sets of states, in [`StateSets`].
 #![tactic(auto)]
 
 mod automaton;

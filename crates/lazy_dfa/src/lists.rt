@@ -21,8 +21,8 @@ pub fn states_at<'a>(starts: &[u32], lists: &'a [u32], row: usize) -> &'a [u32]
     &lists[start + 1..start + 1 + count]
 }
 
-/// Makes `list` that of the states below a bound that a set has. It takes no memory if there is room for so many, and is at most as
-/// many visits.
+/// Makes `list` the list of the states below a bound that a set has. It allocates nothing if there is room for `limit` states,
+/// and is at most `limit` visits.
 pub fn list_of(set: &StateSet, limit: usize, list: &mut Vec<u32>, visits: &mut Visits)
     requires fits { limit ≤ 4294967296 }
     requires within { limit ≤ state_capacity set.now }
@@ -46,7 +46,7 @@ pub fn list_of(set: &StateSet, limit: usize, list: &mut Vec<u32>, visits: &mut V
     }
 }
 
-/// Makes `list` that of the indexes below a bound that a set has. It takes no memory if there is room for so many.
+/// Makes `list` the list of the indexes below a bound that a set has. It allocates nothing if there is room for `limit` indexes.
 pub fn list_indexes(set: &IndexSet, limit: usize, list: &mut Vec<u32>)
     requires fits { limit ≤ 4294967296 }
     requires room { limit ≤ vec_capacity list.old }
@@ -64,7 +64,7 @@ pub fn list_indexes(set: &IndexSet, limit: usize, list: &mut Vec<u32>)
     }
 }
 
-/// Appends a number to a vector that has room for it. It takes no memory.
+/// Appends a number to a vector that has room for it. It does not allocate.
 pub fn push_within(numbers: &mut Vec<u32>, number: usize)
     requires fits { number < 4294967296 }
     requires room { length numbers.old.items < vec_capacity numbers.old }
@@ -74,7 +74,7 @@ pub fn push_within(numbers: &mut Vec<u32>, number: usize)
     let _ = numbers.push(number as u32);
 }
 
-/// Appends numbers to a vector that has room for them. It takes no memory.
+/// Appends numbers to a vector that has room for them. It does not allocate.
 pub fn extend_within(numbers: &mut Vec<u32>, more: &[u32])
     requires { length numbers.old.items + length more.now ≤ vec_capacity numbers.old }
     ensures items { numbers.new.items ≡ numbers.old.items ++ more.now }
@@ -83,7 +83,7 @@ pub fn extend_within(numbers: &mut Vec<u32>, more: &[u32])
     let _ = numbers.extend_from_slice(more);
 }
 
-/// Makes a vector that has room for some numbers hold these, and no others. It takes no memory.
+/// Makes a vector that has room for some numbers hold these, and no others. It does not allocate.
 pub fn copy_within(numbers: &mut Vec<u32>, others: &[u32])
     requires { length others.now ≤ vec_capacity numbers.old }
     ensures items { numbers.new.items ≡ others.now }
@@ -93,7 +93,7 @@ pub fn copy_within(numbers: &mut Vec<u32>, others: &[u32])
     extend_within(numbers, others);
 }
 
-/// Appends so many zeros to a vector that has room for them. It takes no memory.
+/// Appends `count` zeros to a vector that has room for them. It does not allocate.
 pub fn zeros_within(numbers: &mut Vec<u32>, count: usize)
     requires { length numbers.old.items + count ≤ vec_capacity numbers.old }
     ensures items { numbers.new.items ≡ numbers.old.items ++ replicate count 0 }
@@ -102,7 +102,7 @@ pub fn zeros_within(numbers: &mut Vec<u32>, count: usize)
     let _ = numbers.resize(numbers.len() + count, 0);
 }
 
-/// Puts the indexes of a set from `from` on, `count` at most, each less `from`, into another set, beside what it holds.
+/// Puts the indexes of a set from `from` on, `count` at most, each less `from`, into another set, next to its contents.
 pub fn put_lowered(set: &IndexSet, from: usize, count: usize, into: &mut IndexSet)
     requires fits { from + count < 2 ^ 64 }
     requires room { count ≤ index_capacity into.old }
@@ -118,7 +118,7 @@ pub fn put_lowered(set: &IndexSet, from: usize, count: usize, into: &mut IndexSe
     }
 }
 
-/// Puts the states of a list into a set, beside what it holds.
+/// Puts the states of a list into a set, next to its contents.
 pub fn put_states(states: &[u32], into: &mut StateSet)
     requires { AreBelow (state_capacity into.old) states.now }
     ensures room { state_capacity into.new ≡ state_capacity into.old }
@@ -130,7 +130,7 @@ pub fn put_states(states: &[u32], into: &mut StateSet)
     }
 }
 
-/// Puts the numbers of the list at a place into a set, beside what it holds.
+/// Puts the numbers of the list at a place into a set, next to its contents.
 pub fn put_listed(numbers: &[u32], place: usize, into: &mut IndexSet)
     requires { IsList numbers.now (index_capacity into.old) place }
     ensures room { index_capacity into.new ≡ index_capacity into.old }
@@ -144,7 +144,7 @@ pub fn put_listed(numbers: &[u32], place: usize, into: &mut IndexSet)
     }
 }
 
-/// Puts the numbers of the list at a place from `half` on, each less `half`, into a set, beside what it holds.
+/// Puts the numbers of the list at a place from `half` on, each less `half`, into a set, next to its contents.
 pub fn put_marks(numbers: &[u32], place: usize, half: usize, into: &mut IndexSet)
     requires list { IsList numbers.now (half + half) place }
     requires room { half ≤ index_capacity into.old }
@@ -163,7 +163,7 @@ pub fn put_marks(numbers: &[u32], place: usize, half: usize, into: &mut IndexSet
     }
 }
 
-/// Puts the numbers of the list at a place that are below `half`, and the others less `half`, into a set, beside what it holds.
+/// Puts the numbers of the list at a place that are below `half`, and the others less `half`, into a set, next to its contents.
 pub fn put_found(numbers: &[u32], place: usize, half: usize, into: &mut IndexSet)
     requires list { IsList numbers.now (half + half) place }
     requires room { half ≤ index_capacity into.old }

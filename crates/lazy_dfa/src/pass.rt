@@ -1,4 +1,4 @@
-//! One pass over the states of a set, at one position of a text.
+//! A pass over the states of a set, at a position of a text.
 
 ghost use Rattle.std.specs.Prelude.{◌≡◌, ℕ, ◌+◌, ◌<◌, ◌≤◌, ◌||◌, ◌↔◌, ◌==◌, ◌∷◌, [], List, Some, None, length, vec_capacity, IsTrue};
 ghost use Rattle.bit_sets.specs.Indexes.{has_index, index_capacity};
@@ -14,11 +14,12 @@ use crate::lists::push_within;
 use bit_sets::{IndexSet, StateSet, Visits};
 use byte_nfa::Nfa;
 
-/// Makes `to` the list of the states that a byte leads to from the states of a set, and `ends` the indexes of the ends that they lead
-/// to without a byte.
+/// Puts the states that a byte leads to from the states of a set into the list `to`. Puts the indexes of the ends that they lead
+/// to without a byte into `ends`.
 ///
-/// It reads each state at most once, and is one visit for each, so at least as many as the list is long. What a state of `from` goes
-/// on to without a byte is put into `from`, before the pass comes to it. A state can be in the list twice: that costs room, and nothing else.
+/// It reads each state at most once, which is a visit. The list is never longer than the visits. The states that a state of
+/// `from` leads to without a byte are put into `from`, before the pass comes to them. A state can be in the list twice: that
+/// costs room, and nothing else.
 pub fn read(
     automaton: &Nfa,
     byte: u8,

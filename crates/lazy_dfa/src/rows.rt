@@ -53,7 +53,7 @@ const PROBES: usize = 8;
 /// The places of the table while there are few rows: it takes time to fill more.
 const FEWEST_PLACES: usize = 1 << 8;
 
-/// A run remembers of so many rows that their marks were told.
+/// The number of rows whose found marks a run remembers.
 pub const REMEMBERED: usize = 16;
 
 /// Where a byte leads from a row.
@@ -81,7 +81,7 @@ struct Found {
     is_kept: bool,
 }
 
-/// The rows that are made, each for a list of states of the automaton that some text leads to, and what a step needs.
+/// The rows that are made, each for a list of states that some text leads to, and the memory for a step.
 ///
 /// All memory is taken when it is made. If there is no room for a row more, all rows are forgotten. A run holds a row as the place
 /// where its entries begin, so that it need not multiply for each byte.
@@ -91,15 +91,15 @@ pub struct Rows {
     class_count: usize,
     /// For each row, where its list of states stands.
     starts: Vec<u32>,
-    /// The lists of states, and of the indexes of ends, one after another: for each how many these are, and then these.
+    /// The lists of states, and of the indexes of ends, in order: each has its length, and then its numbers.
     lists: Vec<u32>,
-    /// For each row an entry for each class of bytes, and one for the end of the text: where the list of the indexes stands that
-    /// are found without a byte.
+    /// For each row an entry for each class of bytes, and an entry for the end of the text: the place of the list of the indexes
+    /// that are found without a byte.
     entries: Vec<u32>,
-    /// The numbers of rows, and one more, at places by the hashes of their lists.
+    /// The numbers of rows, plus 1, at places by the hashes of their lists.
     table: Vec<u32>,
-    /// What is hashed before each list. It is another number each time that rows are forgotten, so that lists which had one place
-    /// have others then.
+    /// The number that is hashed before each list. It changes each time that rows are forgotten, so that lists which collided
+    /// have other places then.
     pub seed: usize,
     /// The place of the row that a run begins in, if it is made.
     begin: Option<usize>,
@@ -107,7 +107,7 @@ pub struct Rows {
     first: Vec<u32>,
     /// The states that a pass takes.
     pub from: StateSet,
-    /// Those of the next pass, while a text is read without rows.
+    /// The states of the next pass, while a text is read without rows.
     pub next: StateSet,
     /// The indexes of the ends that are found without a byte.
     pub ends: IndexSet,
@@ -118,7 +118,7 @@ pub struct Rows {
 }
 
 impl Rows {
-    /// Returns no rows, with room for as many as fit so many bytes, and for one in each case. Returns an error if memory runs out.
+    /// Returns no rows, with room for all that fit `bytes` bytes, and at least for one.
     pub fn new(
         alloc: Global,
         automaton: &Nfa,
@@ -157,7 +157,7 @@ impl Rows {
         })
     }
 
-    /// Returns how many bytes the rows may take, with the lists of states and indexes, and the table by which rows are found.
+    /// Returns the bytes that the rows may take, with the lists of states and indexes, and the table that finds rows.
     pub fn bytes(&self) -> usize {
         self.entries
             .capacity()
@@ -175,7 +175,7 @@ impl Rows {
         self.seed != 0
     }
 
-    /// Returns the place of the row that a run begins in. If it is not made, it is looked up, which is one visit.
+    /// Returns the place of the row in which a run begins. If it is not made, it is looked up, which is a visit.
     pub fn start(&mut self, automaton: &Nfa, visits: &mut Visits) -> usize
         requires { IsSound automaton.now self.old }
         ensures sound { IsSound automaton.now self.new }
@@ -193,11 +193,11 @@ impl Rows {
         place
     }
 
-    /// Returns where a byte leads from the row at a place. If the row has marks, `ends` has afterwards what the row leads to without a
-    /// byte.
+    /// Returns where a byte leads from the row at a place. If the row has marks, `ends` afterwards has the indexes of the ends
+    /// that the row leads to without a byte.
     ///
-    /// A known entry is one visit. If the entry is not known, each state of the row is read at most once, which is one visit, and the
-    /// row that the byte leads to is looked up, which is one more.
+    /// A known entry is a visit. For an unknown entry each state of the row is read at most once, which is a visit, and the next
+    /// row is looked up, which is another.
     #[inline(always)]
     pub fn step(&mut self, automaton: &Nfa, place: usize, byte: u8, visits: &mut Visits) -> Step
         requires sound { IsSound automaton.now self.old }
@@ -277,8 +277,8 @@ impl Rows {
         }
     }
 
-    /// Returns whether some bytes lead from the row at a place to an end. `live` has the states from which some do. It reads states of
-    /// the row until it comes to one of these, and each is one visit.
+    /// Returns whether some bytes lead from the row at a place to an end. `live` has all states from which some bytes lead to an
+    /// end. It reads states of the row until it comes to a live state, and each is a visit.
     pub fn is_live(
         &self,
         automaton: &Nfa,

@@ -32,16 +32,16 @@ pub enum Reached {
 /// Where a run comes to an entry that is not known, or to the end of the text.
 #[derive(Clone, Copy)]
 pub struct Left {
-    /// How many bytes of the text were read.
+    /// The number of bytes of the text that were read.
     pub at: usize,
     /// The place of the row whose entry is not known.
     pub place: usize,
 }
 
 impl Rows {
-    /// Puts the index of each end that a text leads to, and each index that is decided in it, into a set, beside what it holds.
+    /// Puts the index of each end that a text leads to, and each index that is decided in it, into a set, next to its contents.
     ///
-    /// The automaton is one with early matches, and its indexes are listed: a run ends where all of them are found. Where rows are
+    /// The automaton has early matches, and its indexes are listed: a run ends where all of them are found. Where rows are
     /// forgotten twice, a part of the text is read by sets of states.
     pub fn find(
         &mut self,
@@ -98,7 +98,7 @@ impl Rows {
         }
     }
 
-    /// The same as [`Rows::find`] by entries that are known, from where a run begins. Returns whether all that it needs are known; if
+    /// Like [`Rows::find`] by entries that are known, from where a run begins. Returns whether all that it needs are known; if
     /// not, some of the indexes are put into the set.
     pub fn find_known(
         &self,
@@ -130,8 +130,8 @@ impl Rows {
             .is_none()
     }
 
-    /// Puts what is found in a text from the row at a place into a set, beside what it holds, as far as entries are known. Returns
-    /// where one is not.
+    /// Puts what is found in a text from the row at a place into a set, next to its contents, as far as entries are known.
+    /// Returns where one is not.
     ///
     /// What a row has marks of is told when the row is left. A run remembers some rows whose marks were told, and does not tell these
     /// again when it comes back to them.
@@ -215,7 +215,7 @@ impl Rows {
         }
     }
 
-    /// The same as [`Rows::is_match`] by entries that are known. Returns `None` if one that it needs is not.
+    /// Like [`Rows::is_match`] by known entries. Returns `None` if it needs an unknown entry.
     pub fn is_match_known(&self, automaton: &Nfa, text: &[u8], visits: &mut Visits) -> Option<bool>
         requires { IsSound automaton.now self.now }
         ensures some { IfSome result (λ yes. IsTrue yes
@@ -273,7 +273,7 @@ impl Rows {
         }
     }
 
-    /// The same as [`Rows::can_match_after`] by entries that are known. Returns `None` if one that it needs is not.
+    /// Like [`Rows::can_match_after`] by known entries. Returns `None` if it needs an unknown entry.
     pub fn can_match_after_known(
         &self,
         automaton: &Nfa,

@@ -6,10 +6,10 @@ ghost use Rattle.lazy_dfa.specs.Sets.{sets_capacity};
 use bit_sets::StateSet;
 use std::alloc::{AllocError, Global};
 
-/// The two sets of states that a run changes between: those that the text so far leads to, and those that one more byte leads to.
+/// The two sets of states that a run changes between: the states that the text so far leads to, and the states after another
+/// byte.
 ///
-/// They serve runs of any automata, one after another. A run clears each set before it uses it, so what runs before left in them
-/// has no effect.
+/// They serve runs of any automata, in any order. A run clears each set before it uses it, so earlier runs have no effect.
 #[derive(Drop)]
 pub struct StateSets {
     pub(crate) current: StateSet,
@@ -30,13 +30,12 @@ impl StateSets {
         }
     }
 
-    /// Returns whether room for so many states was made before.
+    /// Returns whether there is room for `states` states.
     pub fn has_capacity_for(&self, states: usize) -> bool {
         states <= self.reserved
     }
 
-    /// Makes room for so many states, if there is less. It takes two bits of memory for each. Returns an error if memory runs
-    /// out.
+    /// Makes room for `states` states, if there is less. It allocates two bits for each.
     pub fn reserve(&mut self, states: usize) -> Result<(), AllocError>
         ensures ok { OnOk result (states ≤ sets_capacity self.new) }
         ensures kept { sets_capacity self.old ≤ sets_capacity self.new }

@@ -41,10 +41,10 @@ pub enum Led {
 }
 
 /// Puts the index of each end that a text leads to from the states of a set, and each index that is decided in it, into `found`,
-/// beside what it holds.
+/// next to its contents.
 ///
-/// The automaton is one with early matches. `from` and `to` take turns, and have room for its states. A run ends as soon as no state
-/// is left. It is at most `(text bytes + 1) * states` visits, and takes no memory.
+/// The automaton has early matches. `from` and `to` take turns, and have room for its states. A run ends as soon as no state is
+/// left. It is at most `(text bytes + 1) * states` visits, and does not allocate.
 pub fn find(
     automaton: &Nfa,
     text: &[u8],
@@ -68,10 +68,10 @@ pub fn find(
     }
 }
 
-/// Puts each index that is decided in a text into `found`, beside what it holds. The states that the text leads to from those of the
-/// set are in `from` then. Returns whether there are any.
+/// Puts each index that is decided in a text into `found`, next to its contents. Afterwards `from` has the states that the text
+/// leads to from its states. Returns whether there are any.
 ///
-/// It is at most `text bytes * states` visits. What else is said of [`find`] holds for it.
+/// It is at most `text bytes * states` visits. Otherwise it has the cost of [`find`].
 pub fn run(
     automaton: &Nfa,
     text: &[u8],
@@ -105,7 +105,7 @@ pub fn run(
 
 /// Returns whether a text leads to some end from the states of a set, or some index is decided in it. It stops at the first that is.
 ///
-/// What is said of [`find`] holds for it.
+/// It has the cost of [`find`].
 pub fn is_match(
     automaton: &Nfa,
     text: &[u8],
@@ -132,7 +132,7 @@ pub fn is_match(
 /// Returns whether some text that begins with `text` and then `byte` leads to some end from the states of a set, or to an index
 /// that is decided. `live` has the states from which some bytes lead to an end.
 ///
-/// It is at most `(text bytes + 2) * states` visits. What else is said of [`find`] holds for it.
+/// It is at most `(text bytes + 2) * states` visits. Otherwise it has the cost of [`find`].
 pub fn can_match_after(
     automaton: &Nfa,
     live: &StateSet,
@@ -197,8 +197,8 @@ pub fn read(
     Led::States
 }
 
-/// Puts the states that a byte leads to from the states of a set into another set, and the indexes that are decided in the first into
-/// `found`, beside what it holds. Returns whether there are states. What the other set held has no effect.
+/// Puts the states that a byte leads to from the states of a set into another set, and the indexes that are decided in the first
+/// into `found`, next to its contents. Returns whether there are states. What the other set held has no effect.
 ///
 /// It reads each state at most once, from the highest on, and is at most one visit for each. What a state of `from` goes on to
 /// without a byte is put into `from`, before the pass comes to it.
@@ -247,7 +247,7 @@ fn step(
     some
 }
 
-/// Does what [`step`] does, but for the indexes that are decided: returns `None` at the first of them.
+/// Does what [`step`] does, except the indexes that are decided: returns `None` at the first of them.
 fn step_undecided(
     automaton: &Nfa,
     byte: u8,
@@ -317,8 +317,8 @@ fn take(automaton: &Nfa, s: usize, byte: u8, from: &mut StateSet, to: &mut State
     }
 }
 
-/// Puts the index of each end that the states of a set lead to without a byte, and each index that is decided there, into `found`,
-/// beside what it holds. It is at most one visit for each state.
+/// Puts the index of each end that the states of a set lead to without a byte, and each index that is decided there, into
+/// `found`, next to its contents. It is at most one visit for each state.
 fn tell_ends(automaton: &Nfa, from: &mut StateSet, found: &mut IndexSet, visits: &mut Visits)
     requires early { (source : NfaValue) × EndsAtEarlyMatches source automaton.now }
     requires from_capacity { size automaton.now ≤ state_capacity from.old }

@@ -1,4 +1,4 @@
-//! Calls that are asked about a path.
+//! Calls that match a path.
 
 ghost use Rattle.std.specs.Prelude.{◌<◌};
 
@@ -6,7 +6,7 @@ use crate::measured::{Limits, Measured};
 use anyhow::Result;
 use globset::{Candidate, Error, GlobMatcher, GlobSet, Searcher};
 
-/// A call that is asked about a path. The [`Candidate`] is made in the call, since a program makes it for each path.
+/// A call that matches a path. The [`Candidate`] is made in the call, since a program makes it for each path.
 pub trait Asked {
     /// Returns how many matches it finds.
     fn ask(&mut self, path: &str) -> Result<usize, Error>;
@@ -24,7 +24,7 @@ impl Asked for Any {
     }
 }
 
-/// `GlobSet::matches_candidate_into`, with one vector for all paths.
+/// `GlobSet::matches_candidate_into`, with the same vector for all paths.
 #[derive(Drop)]
 pub struct Indexes {
     pub set: GlobSet,
@@ -79,7 +79,7 @@ pub fn ask_all<A: Asked>(asked: &mut A, paths: &[&str]) -> Result<usize> {
     Ok(found)
 }
 
-/// Asks about these paths, with so many calls for each, between two looks at the clock.
+/// Calls `calls` times for each of these paths, between two readings of the clock.
 pub fn add_piece<A: Asked>(
     measured: &mut Measured<'_>,
     asked: &mut A,
@@ -91,7 +91,7 @@ pub fn add_piece<A: Asked>(
     measured.stop(start, paths.len().saturating_mul(calls), found)
 }
 
-/// Adds rounds over the paths, in pieces of so many paths, with so many calls for each path.
+/// Adds rounds over the paths, in pieces of `piece` paths, with `calls` calls for each path.
 pub fn add_rounds<A: Asked>(
     measured: &mut Measured<'_>,
     limits: Limits,

@@ -7,13 +7,13 @@ use crate::measured::{Limits, Measured};
 use anyhow::{Result, anyhow};
 use globset::{GlobSet, Searcher};
 
-/// The first calls, which are measured by themselves: many sets take more time for these than for as many later ones.
+/// The first calls, which are measured by themselves: many sets take more time for these than for later calls.
 const FIRST: usize = 100;
 
 /// The calls between two looks at the clock.
 const PIECE: usize = 500;
 
-/// What is measured with which globs and paths, and for how long.
+/// A measurement: its globs and paths, and its time limit.
 #[derive(Clone, Copy)]
 pub struct Job<'a> {
     pub rt: &'a HostRuntime,
@@ -68,7 +68,7 @@ impl Job<'_> {
         self.make(call, &AskedSets { path })
     }
 
-    /// Asks about the paths, with so many calls for each.
+    /// Calls `calls` times for each of the paths.
     fn ask<A: Asked + Drop>(&self, call: &str, mut asked: A, calls: usize) -> Result<()> {
         if self.limits.rounds == 0 {
             return self.count(call, ask_all(&mut asked, self.paths)?);
@@ -91,7 +91,7 @@ impl Job<'_> {
         measured.write(call, self.paths.len().div_ceil(piece))
     }
 
-    /// Writes a count in place of what was measured.
+    /// Writes a count instead of times.
     fn count(&self, call: &str, found: usize) -> Result<()> {
         println!(self.rt; "{call}\t{found}")?;
         Ok(())

@@ -6,10 +6,10 @@ use anyhow::Result;
 use globset::{Candidate, Glob, GlobSet, Searcher};
 use std::alloc::Global;
 
-/// So many globs are read, or more, before the clock is read again.
+/// At least this many globs are read before the clock is read again.
 const GLOBS: usize = 64;
 
-/// So many small sets are made before the clock is read again.
+/// This many small sets are made before the clock is read again.
 const BATCH: usize = 16;
 
 /// A set is small if it takes no more nanoseconds.
@@ -24,7 +24,7 @@ pub fn read(alloc: Global, texts: &[GlobText<'_>]) -> Result<Vec<Glob>> {
     Ok(globs)
 }
 
-/// Adds rounds in which all globs are read, several times if they are few. What frees them is not measured.
+/// Adds rounds that read all globs, several times if they are few. Freeing them is not measured.
 pub fn add_reading(
     measured: &mut Measured<'_>,
     limits: Limits,
@@ -54,7 +54,7 @@ fn push_read(alloc: Global, texts: &[GlobText<'_>], globs: &mut Vec<Glob>) -> Re
     Ok(())
 }
 
-/// What is made of globs.
+/// Something that is made of globs.
 pub trait Making {
     type Made: Drop;
 
@@ -83,7 +83,7 @@ impl Making for Searchers {
     }
 }
 
-/// `GlobSet::new` and `GlobSet::is_match_candidate` of one path.
+/// `GlobSet::new` and `GlobSet::is_match_candidate` of a path.
 #[derive(Drop)]
 pub struct AskedSets<'a> {
     pub path: &'a str,
@@ -99,7 +99,7 @@ impl Making for AskedSets<'_> {
     }
 }
 
-/// Adds rounds in which something is made, several times if it takes little time. What frees it is not measured.
+/// Adds rounds that make something, several times if it takes little time. Freeing it is not measured.
 pub fn add_making<M: Making>(
     measured: &mut Measured<'_>,
     limits: Limits,

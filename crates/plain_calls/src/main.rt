@@ -1,9 +1,9 @@
-//! Measures calls of sets and matchers of globset, those of a searcher, and what it takes to read globs and to make sets. The
-//! program `plain_baseline` of `bench` does the same over the Rust crate, and `bench/plain` compares the two.
+//! Measures calls of sets, matchers and searchers of globset, and the time to read globs and to make sets. The program
+//! `plain_baseline` of `bench` does the same over the Rust crate, and `bench/plain` compares the two.
 //!
-//! `plain_calls CALLS ROUNDS MICROSECONDS`: standard input has the globs, one in each line, an empty line, and the paths. A
-//! line before the empty one that begins with `-` is an option of all globs after it. CALLS are names of [`Job::run`] with
-//! commas between them. Each is measured in so many rounds over the paths, and no more once it took so much processor time.
+//! `plain_calls CALLS ROUNDS MICROSECONDS`: standard input has the globs, a glob in each line, an empty line, and the paths. A
+//! line before the empty line that begins with `-` is an option of all globs after it. CALLS are names of [`Job::run`] with
+//! commas between them. Each is measured in ROUNDS rounds over the paths, and ends after MICROSECONDS of processor time.
 //!
 //! For each call it writes a line of columns between tabs: its name and the columns of [`Measured::write`](measured::Measured).
 //! With 0 rounds it measures nothing, and writes how many matches there are for all paths.

@@ -24,7 +24,7 @@ impl Limits {
     }
 }
 
-/// Some calls that were made without a look at the clock: how many, how many matches they found, and what they took.
+/// Some calls between two readings of the clock: their number, their matches and their time.
 #[derive(Clone, Copy)]
 struct Piece {
     calls: usize,
@@ -48,7 +48,7 @@ impl Piece {
     }
 }
 
-/// The pieces of one call that were measured, in order.
+/// The measured pieces of a call, in order.
 #[derive(Drop)]
 pub struct Measured<'a> {
     rt: &'a HostRuntime,
@@ -72,7 +72,7 @@ impl<'a> Measured<'a> {
         Ok(self.rt.thread_cpu_time()?)
     }
 
-    /// Adds what was done since then.
+    /// Adds the calls since then.
     pub fn stop(&mut self, start: Duration, calls: usize, found: usize) -> Result<()> {
         let taken = self.rt.thread_cpu_time()?.saturating_sub(start);
         let nanos = u64::try_from(taken.as_nanos()).unwrap_or(u64::MAX);
@@ -103,9 +103,9 @@ impl<'a> Measured<'a> {
         self.pieces.clear();
     }
 
-    /// Writes the columns of a call: the matches of the first piece, and those of so many pieces after it, which are a round, or
-    /// `-` if they are not there; and then the calls and the nanoseconds of the first piece, of the later half of all pieces, and
-    /// of the fastest of those with as many calls as the first.
+    /// Writes the columns of a call. First come the matches of the first piece, and the matches of the `pieces_of_round` pieces
+    /// after it, or `-` if they are missing. Then come the calls and the nanoseconds of the first piece, of the later half of all
+    /// pieces, and of the fastest piece with as many calls as the first.
     pub fn write(&self, call: &str, pieces_of_round: usize) -> Result<()> {
         let first = self.pieces.first().copied().unwrap_or(Piece::nothing());
         let (late, least) = (self.late(), self.least(first));

@@ -20,7 +20,7 @@ const FEW_ROWS: usize = 1 << 14;
 /// The limit under which no automaton has rows: texts are read by sets of states.
 const NO_ROWS: usize = 0;
 
-/// The globs that the rows of a case so far added, and sets of them: one under the default limit, and one under each other limit.
+/// The globs of the rows of a case so far, and sets of them: under the default limit, and under each other limit.
 pub struct Globs {
     alloc: Global,
     globs: Vec<Glob>,
@@ -42,7 +42,7 @@ impl Drop for Globs {
     }
 }
 
-/// What a set or a matcher is asked about a path.
+/// A call of a set or a matcher about a path.
 #[derive(Clone, Copy)]
 enum Asked {
     /// Whether it matches the path.
@@ -52,7 +52,7 @@ enum Asked {
 }
 
 impl Globs {
-    /// Returns those of a case that has no rows yet.
+    /// Returns the globs of a case without rows.
     pub fn new(alloc: Global) -> Globs {
         Globs {
             alloc,
@@ -63,8 +63,8 @@ impl Globs {
         }
     }
 
-    /// Returns what the call of a row returns, as columns. The columns that it leaves are those that the call should return.
-    /// Returns an error if the row cannot be read, or the call fails.
+    /// Returns the result of a row's call, as columns. It leaves the columns of the expected result. Fails if the row cannot be
+    /// read, or the call fails.
     pub fn returned(&mut self, columns: &mut Columns<'_>) -> Result<String, Fault> {
         match columns.next()? {
             "read" => self.read(columns),
@@ -130,7 +130,7 @@ impl Globs {
         Ok(String::from_str(self.alloc, answer_of_one(answers.as_str()))?)
     }
 
-    /// Returns what the set answers about a path, and the indexes of the globs whose own matchers say yes. Sets and matchers under
+    /// Returns the set's answer about a path, and the indexes of the globs whose own matchers say yes. Sets and matchers under
     /// the other limits have to return the same: otherwise this returns all three answers.
     ///
     /// About a path a set answers which indexes it returns, and whether all globs match; about a folder, whether it matches some
@@ -150,7 +150,7 @@ impl Globs {
         Ok(format!(in self.alloc; "{first}\t{few_rows}\t{no_rows}")?)
     }
 
-    /// Returns what a set and matchers under a limit answer.
+    /// Returns the answers of a set and of matchers under a limit.
     fn answer(
         &self,
         set: &GlobSet,
@@ -218,7 +218,7 @@ impl Globs {
         }
     }
 
-    /// Reads a set from a JSON text, in place of the set. Returns `reads` and its length; or `fails`, the index and the error.
+    /// Reads a set from a JSON text, instead of the set. Returns `reads` and its length; or `fails`, the index and the error.
     fn array(&mut self, columns: &mut Columns<'_>) -> Result<String, Fault> {
         let value = json(self.alloc, columns)?;
         match GlobSet::from_value(self.alloc, &value) {
@@ -243,7 +243,7 @@ impl Globs {
     }
 }
 
-/// Returns `yes` or `no` in place of the columns that a set of one glob answers, or these columns where its matcher differs.
+/// Returns `yes` or `no` instead of the columns of a set with a single glob, or these columns where its matcher differs.
 fn answer_of_one(columns: &str) -> &str {
     match columns {
         "0\tyes\t0" => "yes",
@@ -252,7 +252,7 @@ fn answer_of_one(columns: &str) -> &str {
     }
 }
 
-/// Returns what a set answers about a path: the indexes that it returns, and whether all globs match it; or of a folder whether it
+/// Returns a set's answer about a path: the indexes that it returns, and whether all globs match it; or of a folder whether it
 /// matches some path below it.
 fn answer_of_set(
     alloc: Global,
@@ -273,7 +273,7 @@ fn answer_of_set(
     Ok(format!(in alloc; "{}\t{all}", Indexes(&indexes))?)
 }
 
-/// Returns what a matcher of a glob under the default limit or another says about a path.
+/// Returns the answer of a glob's matcher, under the default limit or another, about a path.
 fn ask_under(
     alloc: Global,
     limit: Option<usize>,
@@ -300,8 +300,8 @@ fn ask(matcher: &GlobMatcher, path: &Candidate<'_>, asked: Asked) -> Result<bool
     }
 }
 
-/// Returns what a searcher of a matcher says about a path. It has rows from its first path on, where the first calls on a matcher
-/// make none.
+/// Returns the answer of a matcher's searcher about a path. It has rows from its first path on, where the first calls on a
+/// matcher make none.
 fn search(
     alloc: Global,
     matcher: &GlobMatcher,

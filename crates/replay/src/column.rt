@@ -34,8 +34,8 @@ impl<'a> Columns<'a> {
     }
 }
 
-/// Returns the bytes that a column stands for. Each byte string is written in one way, and a column that is written in
-/// another is an error.
+/// Returns the bytes that a column stands for. Each byte string has a single spelling, and a column with another spelling is an
+/// error.
 pub fn unescaped(alloc: Global, column: &str) -> Result<Vec<u8>, Fault>
     ensures { IfOk result (λ bytes. bytes.items ≡ unescaped (chars column.now)) }
 {

@@ -9,9 +9,9 @@ use std::{env, fs, io};
 
 /// Replays the rows of the files that the command-line arguments name.
 ///
-/// For each file this writes how many rows passed and how many failed, after each row that failed with its file, its line
-/// and what was returned instead. A row that cannot be read is one that failed. The last line has the totals. The status is
-/// 0 where no row failed, and otherwise 1.
+/// For each file this writes the numbers of rows that passed and that failed, after each failed row with its file, its line and
+/// the actual result. A row that cannot be read has failed. The last line has the totals. The status is 0 where no row failed,
+/// and otherwise 1.
 pub fn replay_files(rt: &HostRuntime) -> io::Result<ExitCode> {
     let mut passed = 0usize;
     let mut failed = 0usize;

@@ -1,8 +1,8 @@
-//! Replays stored rows about globs, paths, folders, sets and JSON values: each says what a call of the crate globset returns, as
-//! text that a person can write and read.
+//! Replays stored rows about globs, paths, folders, sets and JSON values: each has a call of the crate globset and its result, as
+//! readable text.
 //!
-//! A row is a line whose columns are separated by tabs. The first is its kind, the next ones are what the call is made with,
-//! and the last ones are what it should return. An empty line ends a case, and a line that begins with `#` is a comment. The
+//! A row is a line whose columns are separated by tabs. The first is its kind, the next columns are the arguments of the call,
+//! and the last are its expected result. An empty line ends a case, and a line that begins with `#` is a comment. The
 //! command-line arguments name files of rows, and the comments at the head of each file describe its rows.
 #![tactic(auto)]
 

@@ -8,7 +8,7 @@ use crate::case::Globs;
 use crate::row;
 use std::alloc::{AllocError, Global};
 
-/// The index of a line whose row failed, and what was returned instead.
+/// The index of a line whose row failed, and the actual result.
 #[derive(Drop)]
 pub struct Failure {
     pub index: usize,
@@ -50,7 +50,7 @@ fn is_row(line: &str) -> bool
 }
 
 impl Report {
-    /// Replays a line, if it is a row, and adds what was returned. An empty line ends a case.
+    /// Replays a line, if it is a row, and adds the result. An empty line ends a case.
     fn replay_line(
         &mut self,
         alloc: Global,

@@ -7,7 +7,7 @@ use crate::column::Columns;
 use crate::fault::Fault;
 use std::alloc::{AllocError, Global};
 
-/// Replays a row. Returns what was returned in place of what the row says, or `None` where it is the same.
+/// Replays a row. Returns the actual result if it differs from the row's, and otherwise `None`.
 pub fn replay(alloc: Global, globs: &mut Globs, row: &str) -> Result<Option<String>, AllocError> {
     match compared(alloc, globs, row) {
         Ok(other) => Ok(other),
@@ -27,7 +27,7 @@ fn compared(alloc: Global, globs: &mut Globs, row: &str) -> Result<Option<String
     }
 }
 
-/// Returns what was returned, or `None` if it is what should be returned.
+/// Returns the actual result, or `None` if it is the expected result.
 fn unless_equal(returned: String, want: &str) -> Option<String>
     ensures same { IsNone result ↔ (string_bytes returned ≡ want.now) }
     ensures other { IfSome result (λ text. text ≡ returned) }

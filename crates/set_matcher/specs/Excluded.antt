@@ -3,8 +3,8 @@ use Rattle.std.specs.Prelude.{ℕ, Bool, ◌&&◌, not, List}
 use Rattle.glob_text.specs.GlobMatches.{GlobValue, tokens_of_glob, glob_matches}
 use Rattle.glob_strategy.specs.Excluded.{are_excluded}
 
--- The glob is excluded: no set returns its index, for any path. This depends on the glob's tokens and on
--- `case_insensitive`, and not on how the text is spelled. A matcher of one glob ignores it.
+-- The glob is excluded: no set returns its index, for any path. This depends on the glob's tokens and on `case_insensitive`, and
+-- not on how the text is spelled. A matcher of a single glob ignores it.
 unfoldable pub excluded : GlobValue → Bool
 excluded g = are_excluded g.options (tokens_of_glob g)
 

@@ -20,7 +20,7 @@ set_matcher_value globs a = record {
   automata = a;
 }
 
--- what is seen of a set while it is made: the globs that were added so far, and how many there will be
+-- a set while it is made: the globs that were added so far, and their final number
 pub record AddedGlobs : Type 0 where
   pub given : List GlobValue
   pub count : ℕ

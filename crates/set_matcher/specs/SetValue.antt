@@ -2,8 +2,8 @@
 use Rattle.std.specs.Prelude.{ℕ, List}
 use Rattle.glob_text.specs.GlobMatches.{GlobValue}
 
--- A set is seen as the list of its globs, each a text and options, and one number: the states of its largest automaton. The
--- first glob has index 0.
+-- A set is seen as the list of its globs, each a text and options, and a number: the states of its largest automaton. The first
+-- glob has index 0.
 pub record SetValue : Type 0 where
   pub globs : List GlobValue
   pub states : ℕ

@@ -89,8 +89,7 @@ impl Automata {
         self.extensions.keep_caches();
     }
 
-    /// Returns caches with no rows for the automata, where runs need one. All memory that they
-    /// need is taken here. Returns an error if memory runs out.
+    /// Returns caches with no rows for the automata that need any. Runs with them allocate nothing for rows.
     pub fn new_caches(&self, alloc: Global) -> Result<Caches, AllocError>
         ensures { IfOk result (λ caches. AreCachesOf self.now caches) }
     {
@@ -101,10 +100,10 @@ impl Automata {
         })
     }
 
-    /// Returns whether an automaton has to be run, and if so, marks the indexes of the globs that match the path, and no others. If
-    /// not, no glob matches, and the sets stay as they are.
+    /// Returns whether an automaton has to be run, and if so, marks exactly the indexes of the globs that match the path. If not,
+    /// no glob matches, and the sets stay as they are.
     ///
-    /// The sets get room for each index, and for each state of an automaton that is stepped. Returns an error if memory runs out.
+    /// The sets get room for each index, and for each state of an automaton that is stepped.
     pub fn find(
         &self,
         path: &PathParts<'_>,
@@ -159,7 +158,7 @@ impl Automata {
 
     /// Returns whether some glob matches the path.
     ///
-    /// The sets get room for each state of an automaton that is stepped. Returns an error if memory runs out.
+    /// The sets get room for each state of an automaton that is stepped.
     pub fn is_match(
         &self,
         path: &PathParts<'_>,
@@ -220,12 +219,12 @@ impl Automata {
         self.extensions.slot_of(path.extension(), visits)
     }
 
-    /// Returns whether the last component of a path is asked for.
+    /// Returns whether the last component of a path is looked up.
     pub fn uses_last_component(&self) -> bool {
         self.by_component.state_count() != 0
     }
 
-    /// Returns whether the extension of a path is asked for.
+    /// Returns whether the extension of a path is looked up.
     pub fn uses_extension(&self) -> bool {
         !self.extensions.is_empty()
     }
@@ -241,7 +240,8 @@ impl Automata {
     }
 }
 
-/// Makes [`Automata`] if some glob needs one. Until then it has no builders, so that little is moved for a set that needs none.
+/// Makes [`Automata`] if some glob needs an automaton. Until then it has no builders, so that little is moved for a set without
+/// automata.
 #[derive(Drop)]
 pub struct AutomataBuilder {
     index_count: usize,
@@ -300,8 +300,7 @@ impl AutomataBuilder {
         }
     }
 
-    /// Adds tokens that the whole path has to match. It takes time and memory linear in the tokens. Returns an error if memory
-    /// runs out.
+    /// Adds tokens that the whole path has to match. It takes time and memory linear in the tokens.
     pub fn add_by_path(
         &mut self,
         alloc: Global,
@@ -326,8 +325,7 @@ impl AutomataBuilder {
         added
     }
 
-    /// Adds tokens that the last component of a path has to match. It takes time and memory linear in the tokens. Returns an
-    /// error if memory runs out.
+    /// Adds tokens that the last component of a path has to match. It takes time and memory linear in the tokens.
     pub fn add_by_component(
         &mut self,
         alloc: Global,
@@ -353,8 +351,7 @@ impl AutomataBuilder {
         added
     }
 
-    /// Adds tokens that a path has to match whose last component has an extension. It takes time and memory linear in the
-    /// tokens. Returns an error if memory runs out.
+    /// Adds tokens that a path has to match whose last component has an extension. It takes time and memory linear in the tokens.
     pub fn add_by_extension(
         &mut self,
         alloc: Global,
@@ -386,8 +383,8 @@ impl AutomataBuilder {
         added
     }
 
-    /// Returns what was added, or `None` if nothing was. The rows that are kept between calls take at most `dfa_size_limit` bytes.
-    /// Returns an error if memory runs out.
+    /// Returns the automata of the globs that were added, or `None` if there are none. The rows that are kept between calls take
+    /// at most `dfa_size_limit` bytes.
     pub fn finish(
         self,
         alloc: Global,

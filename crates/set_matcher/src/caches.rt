@@ -1,4 +1,4 @@
-//! The rows that automata keep from one path to the next.
+//! The rows that automata keep from path to path.
 
 ghost use Rattle.std.specs.Prelude.{◌≡◌, ◌+◌, ◌*◌, ◌≤◌, ◌++◌, ◌∷◌, ◌↔◌, [], ℕ, List, length, None, Some, IsTrue, IsOk, OnOk, IfOk};
 ghost use Rattle.bit_sets.specs.Indexes.{index_capacity};
@@ -19,10 +19,10 @@ use lazy_dfa::{Cache, StateSets};
 use std::alloc::AllocError;
 use std::marker::Model;
 
-/// The rows that the automata of a matcher made for the paths of one thread. Where an automaton has none, it runs without.
+/// The rows that the automata of a matcher made for the paths of a thread. An automaton without rows runs without.
 ///
-/// What they hold has no effect on an answer. They are for calls with the matcher that made them, or, if there are none, for
-/// calls with any.
+/// Their contents have no effect on an answer. They are for calls with the matcher that made them; empty caches are for calls
+/// with any matcher.
 pub struct Caches {
     pub(crate) by_path: Option<Cache>,
     pub(crate) by_component: Option<Cache>,
@@ -121,7 +121,7 @@ impl SlotCaches {
         bytes
     }
 
-    /// The same as [`run`], on the bytes before the extension of the path, with the cache of the automaton's slot. Where there is no
+    /// Like [`run`], on the bytes before the extension of the path, with the cache of the automaton's slot. Where there is no
     /// slot, the automaton has no states.
     pub fn run(
         &mut self,
@@ -158,8 +158,8 @@ impl SlotCaches {
         run(part, automaton, path, sets, &mut None, marks, visits)
     }
 
-    /// The same as [`matches_part`], on the bytes before the extension of the path, with the cache of the automaton's slot. Where
-    /// there is no slot, the automaton has no states.
+    /// Like [`matches_part`], on the bytes before the extension of the path, with the cache of the automaton's slot. Where there
+    /// is no slot, the automaton has no states.
     pub fn matches(
         &mut self,
         slot: Option<usize>,
@@ -191,7 +191,7 @@ impl SlotCaches {
         matches_part(part, automaton, path, sets, &mut None, visits)
     }
 
-    /// The same as [`Compiled::can_match_after_with`], with the cache of the automaton's slot.
+    /// Like [`Compiled::can_match_after_with`], with the cache of the automaton's slot.
     pub fn can_match_after(
         &mut self,
         slot: usize,

@@ -1,8 +1,9 @@
-//! What a set of globs stores: which of its globs match a path. For the crate `globset` alone, which does not re-export it.
+//! Matchers of sets of globs: the stored form of a set, which returns the indexes of its globs that match a path. The crates
+//! `globset` and `globset_c` use it, and neither re-exports it.
 //!
-//! [`SetMatcherBuilder`] takes globs one by one, and puts the tokens of each where its strategy says. [`SetMatcher`] asks keys for
-//! the globs that a key decides, and runs automata for the others. They work in a [`Scratch`](glob_matching::Scratch), and may keep
-//! rows of automata from one path to the next in [`Caches`].
+//! [`SetMatcherBuilder`] takes globs in order, and puts the tokens of each where its strategy says. [`SetMatcher`] looks up keys
+//! for the globs that a key decides, and runs automata for the others. They work in a [`Scratch`](glob_matching::Scratch), and
+//! may keep rows of automata from path to path in [`Caches`].
 #![tactic(auto)]
 
 mod automata;

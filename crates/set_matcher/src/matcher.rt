@@ -25,15 +25,15 @@ use std::alloc::{AllocError, Global};
 use std::marker::Model;
 use std::sync::Arc;
 
-/// What a set needs to match: its globs, grouped by what decides each of them. The index of a glob is its position. Of the globs
-/// themselves nothing is kept but what contracts see, which takes no memory.
+/// The stored form of a set: its globs, grouped by how each is decided. The index of a glob is its position. The texts and tokens
+/// of the globs are not stored; contracts see them.
 ///
 /// Contracts see the set, and the automata, so that it can be said which of them a cache is of.
 #[derive(Drop)]
 pub struct SetMatcher {
     alloc: Global,
     globs: GivenGlobs,
-    /// How many globs there are. Each index is below it.
+    /// The number of globs. Each index is below it.
     pub(crate) len: usize,
     pub(crate) keys: LiteralIndex,
     /// Automata for the globs that no key decides, if there are such globs. They are in a box, so that a set without them is small.
@@ -53,7 +53,7 @@ impl Model for SetMatcher {
 }
 
 impl SetMatcher {
-    /// Returns the number of globs, each of which was read, with those that are excluded.
+    /// Returns the number of globs, excluded globs included. Each of them was read.
     pub fn len(&self) -> usize
         ensures count { result ≡ length (set_globs self.now.set) }
         ensures read { All IsRead (set_globs self.now.set) }
@@ -79,7 +79,7 @@ impl SetMatcher {
         }
     }
 
-    /// Keeps a cache in each automaton that has none and may use one, as far as there is memory for it.
+    /// Keeps a cache in each automaton that has none and may use a cache, as far as there is memory for it.
     pub fn keep_caches(&self) {
         if let Some(automata) = &self.automata {
             automata.keep_caches();
@@ -91,7 +91,7 @@ impl SetMatcher {
         Scratch::empty(self.alloc)
     }
 
-    /// Returns caches with no rows for this matcher. All memory that they need is taken here. Returns an error if memory runs out.
+    /// Returns caches with no rows for this matcher. All memory that they need is taken here.
     pub fn new_caches(&self, alloc: Global) -> Result<Caches, AllocError>
         ensures { IfOk result (λ caches. AreCachesOf self.now.automata caches) }
     {
@@ -107,7 +107,7 @@ impl SetMatcher {
 pub struct SetMatcherBuilder {
     alloc: Global,
     globs: GivenGlobs,
-    /// How many globs were added.
+    /// The number of globs that were added.
     len: usize,
     keys: LiteralIndexBuilder,
     automata: AutomataBuilder,
@@ -128,7 +128,7 @@ impl Model for SetMatcherBuilder {
 }
 
 impl SetMatcherBuilder {
-    /// Returns a builder that no globs were added to. So many of them have to be. It allocates nothing.
+    /// Returns a builder without globs, for `count` globs. It allocates nothing.
     pub fn new(alloc: Global, count: usize) -> SetMatcherBuilder
         ensures none { result.given ≡ [] }
         ensures count { result.count ≡ count }
@@ -145,8 +145,7 @@ impl SetMatcherBuilder {
     /// Adds a glob after those that were added: its text, its options, and the tokens that the text was read as. Its index is the
     /// number of globs before it.
     ///
-    /// It takes time and memory linear in the tokens. Returns an error if memory runs out. Then the builder has no globs, and as
-    /// many may be added as at first.
+    /// It takes time and memory linear in the tokens. Then the builder has no globs, and as many may be added as at first.
     pub fn add(
         &mut self,
         text: &String,
@@ -187,8 +186,8 @@ impl SetMatcherBuilder {
         Ok(())
     }
 
-    /// Returns the matcher of the globs that were added, which sets and searchers share. The rows that it keeps take at most `dfa_size_limit` bytes. Returns an
-    /// error if memory runs out.
+    /// Returns the matcher of the globs that were added, which sets and searchers share. The rows that it keeps take at most
+    /// `dfa_size_limit` bytes.
     pub fn finish(self, dfa_size_limit: usize) -> Result<Arc<SetMatcher>, AllocError>
         requires { length self.given ≡ self.count }
         ensures { IfOk result (λ matcher. set_globs (arc_value matcher).set ≡ self.given) }

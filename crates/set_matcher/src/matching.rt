@@ -20,9 +20,9 @@ use std::alloc::AllocError;
 impl SetMatcher {
     /// Replaces the vector's items by the indexes, ascending, of the globs that are not excluded and match the path.
     ///
-    /// The scratch gets room for each index, and for each state of an automaton that is stepped; the vector grows for the indexes.
-    /// Returns an error if memory runs out, and so none if it has that room and the vector a capacity for all indexes. After an
-    /// error the vector is empty.
+    /// The scratch gets room for each index, and for each state of an automaton that is stepped; the vector grows for the
+    /// indexes. It allocates nothing if it has that room and the vector a capacity for all indexes. After an error the vector is
+    /// empty.
     pub fn find(
         &self,
         path: &Candidate<'_>,
@@ -70,8 +70,8 @@ impl SetMatcher {
 
     /// Returns whether some glob that is not excluded matches the path.
     ///
-    /// The scratch gets room for each state of an automaton that is stepped. Returns an error if memory runs out, and so none if it
-    /// has that room, or if no glob needs an automaton for the path.
+    /// The scratch gets room for each state of an automaton that is stepped. It allocates nothing if it has that room, or if no
+    /// glob needs an automaton for the path.
     pub fn is_match(
         &self,
         path: &Candidate<'_>,
@@ -104,7 +104,7 @@ impl SetMatcher {
     /// Returns whether every glob matches the path and none is excluded.
     ///
     /// If an automaton has to be run, the scratch gets room for each index, and for each state of an automaton that is stepped.
-    /// Returns an error if memory runs out, and so none if it has that room, or if no glob needs an automaton for the path.
+    /// It allocates nothing if it has that room, or if no glob needs an automaton for the path.
     pub fn matches_all(
         &self,
         path: &Candidate<'_>,
@@ -139,8 +139,8 @@ impl SetMatcher {
 
     /// Returns whether some glob that is not excluded matches some path below a folder: the folder, a `/`, and any bytes, perhaps none.
     ///
-    /// The scratch gets room for each state of an automaton that is stepped. Returns an error if memory runs out, and so none if it
-    /// has that room, or if each glob is direct.
+    /// The scratch gets room for each state of an automaton that is stepped. It allocates nothing if it has that room, or if each
+    /// glob is direct.
     pub fn can_match_below(
         &self,
         folder: &[u8],

@@ -2,8 +2,8 @@
 use Rattle.std.specs.Prelude.{◌≡◌, ℕ, ◌+◌, ◌*◌, ◌/◌, ◌^◌, ◌≤◌, true, false, List, length}
 use Rattle.bit_sets.specs.Bits.{bit_of}
 
--- The summary has a bit for each of the words, which is set exactly if a bit of the word is. The words may stand after 64 other bits,
--- and then still each bit has a number below 2 ^ 64.
+-- The summary has a bit for each of the words, which is set exactly if a bit of the word is. The words may stand after 64 other
+-- bits, and then still each bit has a number below 2 ^ 64.
 pub record IsSummary (words summary : List ℕ) : Type 0 where
   pub fits : 64 * length words + 64 ≤ 2 ^ 64
   pub fits_too : 64 * length summary ≤ 2 ^ 64

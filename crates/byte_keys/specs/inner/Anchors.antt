@@ -4,7 +4,7 @@ use Rattle.byte_keys.specs.Entries.{Entry, entry}
 use Rattle.byte_keys.specs.declared.anchor.Anchor.{Anchor}
 use Rattle.byte_keys.specs.declared.anchor.Anchor.TheVariants.{Start, End}
 
--- the bytes, in the order in which they are read
+-- the bytes, in the order of reading
 abbrev pub from_anchor : Anchor → List ℕ → List ℕ
 from_anchor Start p = p
 from_anchor End p = reverse p

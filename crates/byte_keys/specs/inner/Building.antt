@@ -1,4 +1,4 @@
--- What a tree that is being made stands for.
+-- The meaning of an unfinished tree.
 use Rattle.std.specs.Prelude.{◌≡◌, ℕ, ◌+◌, ◌<◌, ◌≤◌, ◌==◌, ◌⊎◌, cond, List, [], ◌∷◌, ◌++◌, Option, length, map, drop, slice_get, slice_index_or, slice_range}
 use Rattle.std.specs.List.{AllWithin, AllByRecursion}
 use Rattle.std.specs.List.Sorted.{IsStrictlyIncreasing}
@@ -18,7 +18,7 @@ rest_of depth t = entry (drop depth t.bytes.items) t.index
 abbrev pub next_of : ℕ → Text → Option ℕ
 next_of depth t = slice_get t.bytes.items depth
 
--- what the texts of a span go on with
+-- the rests of the texts of a span
 abbrev pub rests : List Text → ℕ → ℕ → ℕ → List Entry
 rests texts depth from to = map (rest_of depth) (slice_range texts from to)
 
@@ -31,7 +31,7 @@ IsUpTo [] ys = Unit {0}
 IsUpTo (x ∷ xs) [] = ⊥
 IsUpTo (x ∷ xs) (y ∷ ys) = (x < y) ⊎ ((x ≡ y) × IsUpTo xs ys)
 
--- from one text up to another, what follows the first bytes is in order
+-- the rests of a range of texts after the first bytes are in order
 abbrev pub IsOrdered : List Text → ℕ → ℕ → ℕ → Type 0
 IsOrdered texts depth from to =
     (i j : ℕ) (d e : Text) → from ≤ i → i ≤ j → j < to → IsUpTo (drop depth (slice_index_or texts i d).bytes.items) (drop depth (slice_index_or texts j e).bytes.items)
@@ -63,11 +63,11 @@ pub record IsSplit (texts : List Text) (depth : ℕ) (es : List Entry) (bs : Lis
   pub picks : (b : ℕ) (w : List ℕ) → picked texts (depth + 1) bs ss b w ≡ indexes_under es (b ∷ w)
   pub spans : AreSpans texts (depth + 1) ss
 
--- to bytes and spans were added those of a span
+-- the bytes and spans of a span were added to others
 abbrev pub AddsSplit : List Text → ℕ → Span → List ℕ → List ℕ → List Span → List Span → Type 0
 AddsSplit texts depth span bytes bytes' spans spans' = (bs : List ℕ) × (ss : List Span) × (bytes' ≡ bytes ++ bs) × (spans' ≡ spans ++ ss) × IsSplit texts depth (rests_of texts depth span) bs ss
 
--- what is added for one span: edges, what they lead to, and a node
+-- the additions for a span: edges, their targets, and a node
 pub record IsAdded (texts : List Text) (depth : ℕ) (s : Span) (old new : Tree) (next_old next_new : List Span) : Type 0 where
   pub bytes : List ℕ
   pub spans : List Span
@@ -83,18 +83,18 @@ pub record IsAdded (texts : List Text) (depth : ℕ) (s : Span) (old new : Tree)
   pub held : slice_range (map (λ t. t.index) texts) node.indexes node.indexes_end ≡ indexes_under (rests_of texts depth s) []
   pub split : IsSplit texts depth (rests_of texts depth s) bytes spans
 
--- what the node s stands for
+-- the list of the node s
 abbrev pub lists_at : List (List Entry) → ℕ → List Entry
 lists_at g s = slice_index_or g s []
 
--- each node stands for its list: it has the indexes of what is empty there, and leads on for the rest
+-- each node stands for its list: it has the indexes of the empty rests, and edges for the others
 pub record IsSound (ns : List Node) (bytes indexes : List ℕ) (g : List (List Entry)) : Type 0 where
   pub nodes : (s : ℕ) → s < length ns → IsNode bytes indexes (node_of ns s)
   pub held : (s : ℕ) → s < length ns → held_of ns indexes s ≡ indexes_under (lists_at g s) []
   pub step : (s b : ℕ) (w : List ℕ) → s < length ns → follow (child_of ns bytes s b) (λ c. indexes_under (lists_at g c) w) ≡ indexes_under (lists_at g s) (b ∷ w)
   pub total : length bytes + 1 ≡ length g
 
--- the tree's nodes stand for lists, and those of the nodes to come are pending; the root stands for all texts
+-- the tree's nodes stand for lists, and the lists of later nodes are pending; the root stands for all texts
 pub record Stands (texts : List Text) (t : Tree) (pending : List (List Entry)) : Type 0 where
   pub done : List (List Entry)
   pub counted : length done ≡ node_count t

@@ -6,7 +6,7 @@ use Rattle.byte_keys.specs.declared.ends.Ends.{Ends}
 use Rattle.byte_keys.specs.declared.rows.Row.{Row}
 use Rattle.byte_keys.specs.inner.Rows.{row_key}
 
--- the key's last byte is one of them, or the key is empty as one of the keys is
+-- the key's last byte is among them, or the key is empty and an empty key is among the keys
 abbrev pub ends_have : Ends → List ℕ → Bool
 ends_have ends key = cond (nat_eq (length key) 0) ends.has_empty (has_byte ends.last (slice_index key (length key - 1)))
 

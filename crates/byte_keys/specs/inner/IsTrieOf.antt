@@ -1,4 +1,4 @@
--- What is true of the tree of each trie. A trie has a tree exactly if it has texts.
+-- The invariant of each trie's tree. A trie has a tree exactly if it has texts.
 use Rattle.std.specs.Prelude.{◌≡◌, ℕ, ◌<◌, ◌^◌, List, [], Option, Some, None, length, map}
 use Rattle.std.specs.Global.{Box}
 use Rattle.byte_keys.specs.Entries.{Entry, indexes_under}

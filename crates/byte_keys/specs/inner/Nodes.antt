@@ -1,4 +1,4 @@
--- What the nodes of a tree find.
+-- The indexes under the nodes of a tree.
 use Rattle.std.specs.Prelude.{◌≡◌, ℕ, ◌+◌, ◌<◌, ◌≤◌, ◌==◌, cond, List, [], ◌∷◌, ◌++◌, Option, Some, None, length, slice_index_or, slice_range}
 use Rattle.std.specs.List.Sorted.{IsStrictlyIncreasing}
 use Rattle.byte_keys.specs.declared.tree.Node.{Node}
@@ -9,7 +9,7 @@ abbrev pub place_in : List ℕ → ℕ → ℕ → Option ℕ
 place_in [] c b = None
 place_in (x ∷ xs) c b = cond (x == b) (Some c) (place_in xs (c + 1) b)
 
--- the node of the number s; one past the last has no edges and no indexes
+-- the node of the number s; past the last there are no edges and no indexes
 abbrev pub node_of : List Node → ℕ → Node
 node_of ns s = slice_index_or ns s (record { edges = 0; edges_end = 0; indexes = 0; indexes_end = 0 })
 
@@ -56,7 +56,7 @@ pub record IsNode (bytes held : List ℕ) (n : Node) : Type 0 where
   pub indexes_end : n.indexes_end ≤ length held
   pub rising : IsStrictlyIncreasing (slice_range bytes n.edges n.edges_end)
 
--- what is true of each tree
+-- the invariant of each tree
 pub record IsTree (t : Tree) : Type 0 where
   pub nodes : (s : ℕ) → s < node_count t → IsNode t.bytes.items t.indexes.items (node_of t.nodes.items s)
   pub edges : length t.bytes.items + 1 ≡ node_count t

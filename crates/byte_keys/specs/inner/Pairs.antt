@@ -1,4 +1,4 @@
--- Keys as parts of one list of bytes, and the entries that pairs of such a key and an index stand for.
+-- Keys as parts of a list of bytes, and the entries of pairs of such a key and an index.
 use Rattle.std.specs.Prelude.{ℕ, ◌≡◌, ◌≤◌, ◌/◌, ◌^◌, Bool, List, length, map, slice_range}
 use Rattle.std.specs.declared.cmp.Ordering.{Ordering}
 use Rattle.std.specs.Cmp.Lexicographic.{slice_cmp}
@@ -22,7 +22,7 @@ entries_of bytes ps = map (pair_entry bytes) ps
 unfoldable pub hash_of : List ℕ → ℕ
 hash_of key = folding.finish (folding.write folding.initial key) / 2 ^ 32
 
--- the order of hashes, and of keys under one hash
+-- the order of hashes, and of keys under the same hash
 abbrev pub hashed_order : ℕ → List ℕ → ℕ → List ℕ → Ordering
 hashed_order g x h y = ordering_then (nat_cmp g h) (slice_cmp nat_cmp x y)
 
@@ -30,7 +30,7 @@ hashed_order g x h y = ordering_then (nat_cmp g h) (slice_cmp nat_cmp x y)
 abbrev pub key_order : List ℕ → List ℕ → Ordering
 key_order x y = hashed_order (hash_of x) x (hash_of y) y
 
--- the pair's key lies within the bytes, and its hash is that of its key
+-- the pair's key lies within the bytes, and its hash is the key's
 abbrev pub IsKept : List ℕ → Pair → Type 0
 IsKept bytes p = (p.end ≤ length bytes) × (p.hash ≡ hash_of (pair_key bytes p))
 

@@ -41,7 +41,7 @@ pub record HasRows (bytes : List ℕ) (rows : List Row) (indexes : List ℕ) (en
 abbrev pub key_at : List ℕ → List Pair → ℕ → List ℕ
 key_at bytes ps k = pair_key bytes (slice_index_or ps k (record { hash = 0; start = 0; end = 0; index = 0 }))
 
--- the pair after the one at an index has the same key
+-- the pair at an index and the next pair have the same key
 abbrev pub IsSameKey : List ℕ → List Pair → ℕ → Type 0
 IsSameKey bytes ps k = (k + 1 < length ps) × (key_at bytes ps (k + 1) ≡ key_at bytes ps k)
 

@@ -17,7 +17,7 @@ hashes_of rows = map (λ r. r.hash) rows
 abbrev pub buckets_of : ℕ → List Row → List ℕ
 buckets_of shift rows = map (λ r. r.hash / 2 ^ shift) rows
 
--- the starts are those of the rows' buckets
+-- the starts of the rows' buckets
 pub record HasStarts (rows : List Row) (shift : ℕ) (starts : List ℕ) : Type 0 where
   pub at : AreStarts (buckets_of shift rows) starts
 

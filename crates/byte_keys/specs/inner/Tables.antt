@@ -1,4 +1,4 @@
--- What is true of the parts of each table.
+-- The invariants of each table's parts.
 use Rattle.std.specs.Prelude.{◌≡◌, ◌≢◌, List, [], Option, Some, None, length}
 use Rattle.std.specs.Global.{Box}
 use Rattle.byte_keys.specs.Entries.{Entry}
@@ -7,8 +7,7 @@ use Rattle.byte_keys.specs.inner.Ends.{HasEnds}
 use Rattle.byte_keys.specs.inner.Rows.{HasRows}
 use Rattle.byte_keys.specs.inner.Starts.{HasStarts}
 
--- the rows are those of the entries, of which there are some, and there are as many indexes; the ends and the starts are those of
--- the rows
+-- the rows belong to the entries, which are not empty, and there are as many indexes; the ends and the starts belong to the rows
 pub record AreContents (c : Contents) (entries : List Entry) : Type 0 where
   pub has_rows : HasRows c.bytes.items c.rows.items c.indexes.items entries
   pub has_ends : HasEnds c.bytes.items c.rows.items c.ends

@@ -17,7 +17,7 @@ use crate::text::Text;
 use std::alloc::{AllocError, Global};
 use std::mem;
 
-/// The texts from one on and before another, which begin with the same bytes.
+/// The texts from a place on and before another, which begin with the same bytes.
 #[derive(Clone, Copy)]
 struct Span {
     from: usize,
@@ -25,7 +25,7 @@ struct Span {
 }
 
 impl Tree {
-    /// Returns a tree of texts, which are in order. Returns an error if memory runs out.
+    /// Returns a tree of texts, which are in order.
     pub fn build(alloc: Global, texts: &[Text]) -> Result<Tree, AllocError>
         requires { IsOrdered texts.now 0 0 (length texts.now) }
         ensures tree { IfOk result IsTree }
@@ -52,7 +52,7 @@ impl Tree {
         Ok(tree)
     }
 
-    /// Adds the nodes of a level, and replaces the items of `next` by what the nodes of the next level stand for.
+    /// Adds the nodes of a level, and replaces the items of `next` by the spans of the nodes of the next level.
     fn push_level(
         &mut self,
         texts: &[Text],

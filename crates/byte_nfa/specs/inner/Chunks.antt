@@ -1,4 +1,4 @@
--- Chunks: states of one kind with the same bytes.
+-- Chunks: states of the same kind with the same bytes.
 use Rattle.std.specs.Prelude.{◌≡◌, ℕ, ◌<◌, ◌≤◌, List, [], ◌∷◌, slice_index}
 use Rattle.byte_nfa.specs.Building.{Pushes}
 use Rattle.byte_nfa.specs.Steps.{State, bytes_state, union_state, loop_state, match_state, state, NfaValue, HasNumber}
@@ -12,7 +12,8 @@ with_next (union_state us) n = union_state us
 with_next (loop_state w us) n = loop_state w (n ∷ [])
 with_next (match_state k) n = match_state k
 
--- the states of the list from the place low on, below high, are st but for what they go on to: the numbers of nexts, and no others
+-- the states of the list from the place low on, below high, are st except for their successors, which are exactly the numbers of
+-- nexts
 pub record IsChunk (a : List State) (l : List ℕ) (low high : ℕ) (st : State) (nexts : List ℕ) : Type 0 where
   pub goes : (i : ℕ) → low ≤ i → i < high → (n : ℕ) × HasNumber n nexts × (state a (slice_index l i) ≡ with_next st n)
   pub comes : (n : ℕ) → HasNumber n nexts → (i : ℕ) × (low ≤ i) × (i < high) × (state a (slice_index l i) ≡ with_next st n)

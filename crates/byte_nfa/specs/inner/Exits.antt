@@ -1,4 +1,4 @@
--- States with one exit.
+-- States with a single exit.
 use Rattle.std.specs.Prelude.{◌≡◌, ℕ, ◌+◌, ◌<◌, ◌⊎◌, List, [], ◌∷◌, slice_index_or, Option, MatchOption}
 use Rattle.bit_sets.specs.declared.byte_set.ByteSet.{ByteSet}
 use Rattle.byte_nfa.specs.Steps.{State, loop_state, match_state, state}
@@ -11,7 +11,7 @@ use Rattle.bit_sets.specs.Bytes.{HasEvery}
 abbrev pub StaysBefore : State → ℕ → Type 0
 StaysBefore st t = (w : ByteSet) × (st ≡ loop_state w (t ∷ [])) × HasEvery w
 
--- what is told of the state s: the state that it stays before, which is below it, or that there is none
+-- an answer about the state s: the state that it stays before, which is below it, or that there is none
 abbrev pub TellsExit : State → ℕ → Option ℕ → Type 0
 TellsExit st s told = MatchOption told ((t : ℕ) → StaysBefore st t → ⊥) (λ t. StaysBefore st t × (t < s))
 
@@ -19,7 +19,8 @@ TellsExit st s told = MatchOption told ((t : ℕ) → StaysBefore st t → ⊥) 
 abbrev pub IsNoEnd : List State → ℕ → Type 0
 IsNoEnd a t = ((k : ℕ) → Decides a t k → ⊥) × ((k : ℕ) → state a t ≡ match_state k → ⊥)
 
--- what stands for the state t in an automaton with early matches tells of it: that it is an end of an index, or decides one, or neither
+-- the counterpart of the state t in an automaton with early matches shows whether t is an end of an index, decides an index, or
+-- neither
 abbrev pub TellsDecision : List State → ℕ → ℕ → declared.State → Type 0
 TellsDecision a n t (Bytes m u) = IsNoEnd a t
 TellsDecision a n t (Union at) = IsNoEnd a t

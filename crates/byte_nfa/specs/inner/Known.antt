@@ -9,7 +9,7 @@ abbrev pub IsKnown : List Known → List ℕ → ℕ → Type 0
 IsKnown [] l u = ⊥
 IsKnown (x ∷ xs) l u = ((x.list.items ≡ l) × (x.state ≡ u)) ⊎ IsKnown xs l u
 
--- what is true of an automaton while its states are made: each entry's state stands for the entry's list
+-- the invariant of an automaton while its states are made: each entry's state stands for the entry's list
 pub record IsSharing (old new : NfaValue) (entries : List Known) : Type 0 where
   pub known : (l : List ℕ) (u : ℕ) → IsKnown entries l u → IsStateFor old new l u
   pub starts : new.starts ≡ []

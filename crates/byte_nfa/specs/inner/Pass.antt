@@ -1,15 +1,15 @@
--- One pass over the states at one position of a text.
+-- A pass over the states at a position of a text.
 use Rattle.std.specs.Prelude.{◌≡◌, ℕ, ◌<◌, ◌⊎◌, Bool, false, ◌&&◌, ◌==◌, List, [], ◌∷◌, length, Option, Some, None, MatchOption, IsTrue}
 use Rattle.bit_sets.specs.Bytes.{has_byte}
 use Rattle.bit_sets.specs.Numbers.{has_number}
 use Rattle.byte_nfa.specs.Steps.{State, bytes_state, union_state, loop_state, match_state, Accepts}
 
--- the next byte, if there is one
+-- the next byte, if there is any
 abbrev pub head : List ℕ → Option ℕ
 head [] = None
 head (c ∷ cs) = Some c
 
--- t is one of the states that the state goes on to without a byte
+-- the state leads to t without a byte
 abbrev pub goes_now : State → ℕ → Bool
 goes_now (bytes_state w u) t = false
 goes_now (union_state us) t = has_number t us
@@ -33,7 +33,7 @@ names (bytes_state w u) o k = false
 names (union_state us) o k = false
 names (loop_state w us) o k = false
 
--- what is told of a state at the end of the text: the index that it names, or that it names none
+-- an answer about a state at the end of the text: the index that it names, or that it names none
 abbrev pub TellsEnd : State → Option ℕ → Type 0
 TellsEnd st told = MatchOption told ((k : ℕ) → names st None k ≡ false) (λ k. st ≡ match_state k)
 
@@ -57,6 +57,6 @@ AcceptsLater a next y k = (c : ℕ) × (z : List ℕ) × (t : ℕ) × (y ≡ c �
 abbrev pub Found : (ℕ → Bool) → List ℕ → ℕ → Type 0
 Found found y k = (y ≡ []) × IsTrue (found k)
 
--- k is accepted from what is not read yet, from the next set, or was found: what a pass keeps
+-- the invariant of a pass: k is accepted from the unread states, from the next set, or was found
 abbrev pub PassInvariant : List State → (ℕ → Bool) → ℕ → (ℕ → Bool) → (ℕ → Bool) → List ℕ → ℕ → Type 0
 PassInvariant a now limit next found y k = AcceptsNow a now limit y k ⊎ (AcceptsLater a next y k ⊎ Found found y k)

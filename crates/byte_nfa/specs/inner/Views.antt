@@ -1,4 +1,5 @@
--- The states as an automaton keeps them: sets of bytes lie in one list, and what a state goes on to without a byte in another.
+-- The states as an automaton stores them: a list has the sets of bytes, and another the states that states lead to without a
+-- byte.
 use Rattle.std.specs.Prelude.{ℕ, ◌+◌, ◌<◌, List, [], ◌∷◌, map, length, slice_index, slice_index_or, slice_range}
 use Rattle.byte_nfa.specs.Steps.{State, bytes_state, union_state, loop_state, match_state, state, NfaValue}
 use Rattle.bit_sets.specs.Bytes.{no_bytes}
@@ -7,7 +8,7 @@ use Rattle.bit_sets.specs.declared.byte_set.ByteSet.{ByteSet}
 use Rattle.byte_nfa.specs.declared.state.State as declared
 use Rattle.byte_nfa.specs.declared.state.State.TheVariants.{Bytes, Union, Loop, Match}
 
--- the set with the number n; one past the last has no byte
+-- the set with the number n; past the last it has no byte
 abbrev pub set_at : List ByteSet → ℕ → ByteSet
 set_at sets n = slice_index_or sets n no_bytes
 
@@ -24,7 +25,7 @@ of_state sets targets (Match k) = match_state k
 abbrev pub of_states : List ByteSet → List ℕ → List declared.State → List State
 of_states sets targets states = map (of_state sets targets) states
 
--- the state's set is one of the sets, and the states that it goes on to lie in the list
+-- the state's set is among the sets, and the list has the states that it leads to
 abbrev pub IsHeld : List ByteSet → List ℕ → declared.State → Type 0
 IsHeld sets targets (Bytes n t) = n < length sets
 IsHeld sets targets (Union at) = at + slice_index targets at < length targets
@@ -35,7 +36,7 @@ abbrev pub AreHeld : List ByteSet → List ℕ → List declared.State → Type 
 AreHeld sets targets [] = Unit {0}
 AreHeld sets targets (x ∷ xs) = IsHeld sets targets x × AreHeld sets targets xs
 
--- what the state goes on to has a lower number
+-- the state leads only to states with a lower number
 abbrev pub GoesBelow : ℕ → State → Type 0
 GoesBelow s (bytes_state w t) = t < s
 GoesBelow s (union_state us) = AreBelow s us
@@ -49,7 +50,7 @@ NamesBelow n (union_state us) = Unit {0}
 NamesBelow n (loop_state w us) = Unit {0}
 NamesBelow n (match_state k) = k < n
 
--- what is true of the parts of each automaton
+-- the invariants of an automaton's parts
 pub record AreSound (sets : List ByteSet) (targets : List ℕ) (states : List declared.State) (starts : List ℕ) (n : ℕ) : Type 0 where
   pub held : AreHeld sets targets states
   pub down : (s : ℕ) → GoesBelow s (state (of_states sets targets states) s)

@@ -13,7 +13,7 @@ use bit_sets::{ByteSet, StateSet};
 use std::alloc::AllocError;
 
 impl Nfa {
-    /// Puts the states that lead to some end without a byte into a set. What the set held has no effect.
+    /// Puts the states that lead to some end without a byte into a set. The set's old contents have no effect.
     ///
     /// It reads each state.
     pub fn accepting(&self, into: &mut StateSet)
@@ -29,9 +29,9 @@ impl Nfa {
         }
     }
 
-    /// Returns a set that has the last byte of each text that leads to some end. Returns an error if memory runs out.
+    /// Returns a set that has the last byte of each text that leads to some end.
     ///
-    /// It has no byte by which no state goes on to one that leads to an end without a byte. It reads each state, and takes a
+    /// Each of its bytes leads from some state to a state that leads to an end without a byte. It reads each state, and takes a
     /// bit of memory for each until it returns.
     pub fn last_bytes(&self) -> Result<ByteSet, AllocError>
         ensures { IfOk result (λ set. HasLastBytes self.now set) }
@@ -55,7 +55,7 @@ impl Nfa {
         self.states[s].is_accepting(s, &self.targets, accepting)
     }
 
-    /// Returns a set with each byte more by which a state goes on to a state of `accepting`.
+    /// Returns a set together with each byte that leads from some state to a state of `accepting`.
     fn add_last_bytes(&self, s: usize, accepting: &StateSet, set: ByteSet) -> ByteSet
         requires exists { s < size self.now }
         requires room { size self.now ≤ state_capacity accepting.now }

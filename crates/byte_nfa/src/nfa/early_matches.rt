@@ -1,4 +1,4 @@
-//! Ends in place of the states that decide an index.
+//! Ends instead of the states that decide an index.
 
 ghost use Rattle.std.specs.Prelude.{ℕ, ◌*◌, ◌<◌, ◌≤◌, ◌^◌, length, IfOk, MatchOption};
 ghost use Rattle.byte_nfa.specs.EarlyMatches.{Decides, EndsAtEarlyMatches};
@@ -10,11 +10,11 @@ use crate::state::State;
 use std::alloc::AllocError;
 
 impl Nfa {
-    /// Returns the automaton in which each state that decides an index `k` is an end, of the index `index_count + k`.
+    /// Returns the automaton where each state that decides an index `k` is an end, of the index `index_count + k`.
     ///
-    /// A state decides an index if it stays on every byte and goes on to an end of that index alone, or to a state that decides it. A
-    /// text leads to an end of the index exactly if in the new automaton it does, or some beginning of it leads to an end of the index
-    /// `index_count + k`. Returns `None` if twice as many indexes are too many for a `usize`, and an error if memory runs out.
+    /// A state decides an index if it stays on every byte and goes on to an end of that index alone, or to a state that decides
+    /// it. A text leads to an end of the index exactly if in the new automaton it does, or some beginning of it leads to an end
+    /// of the index `index_count + k`. Returns `None` if twice as many indexes are too many for a `usize`.
     pub fn with_early_matches(&self) -> Result<Option<Nfa>, AllocError>
         ensures { IfOk result
             (λ made. MatchOption made (2 ^ 64 ≤ self.now.index_count * 2)

@@ -1,4 +1,4 @@
-//! States from which some bytes lead to an end.
+//! States that can still lead to an end.
 
 ghost use Rattle.std.specs.Prelude.{◌≡◌, ℕ, ◌+◌, ◌<◌, ◌≤◌, ◌↔◌, List, IsTrue};
 ghost use Rattle.byte_nfa.specs.Live.{AreLive};
@@ -14,7 +14,7 @@ use crate::state::is_in;
 use bit_sets::{StateSet, Visits};
 
 impl Nfa {
-    /// Puts the states from which some bytes lead to an end into a set. What the set held has no effect.
+    /// Puts the states that can still lead to an end into a set. The set's old contents have no effect.
     ///
     /// It reads each state.
     pub fn live(&self, into: &mut StateSet)
@@ -30,8 +30,8 @@ impl Nfa {
         }
     }
 
-    /// Returns whether some bytes lead from the states of a set to an end. `live` has the states from which some do. It reads
-    /// each state of the set at most once, which is one visit.
+    /// Returns whether some bytes lead from the states of a set to an end. `live` has all such states. It reads each state of the
+    /// set at most once, which is a visit.
     pub fn has_live(&self, from: &StateSet, live: &StateSet, visits: &mut Visits) -> bool
         requires from_capacity { size self.now ≤ state_capacity from.now }
         requires live_capacity { size self.now ≤ state_capacity live.now }
@@ -53,7 +53,7 @@ impl Nfa {
         false
     }
 
-    /// Returns whether a state is an end, or goes on to a state of a set without a byte, or by a byte to a lower state of the
+    /// Returns whether a state is an end, leads to a state of a set without a byte, or leads by a byte to a lower state of the
     /// set.
     fn is_leading(&self, s: usize, live: &StateSet) -> bool
         requires exists { s < size self.now }

@@ -1,4 +1,4 @@
-//! States that are read one at a time.
+//! States that are read each by itself.
 
 ghost use Rattle.std.specs.Prelude.{◌≡◌, ℕ, ◌<◌, ◌≤◌, IfSome, MatchOption};
 ghost use Rattle.byte_nfa.specs.Reading.{is_read};

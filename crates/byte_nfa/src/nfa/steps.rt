@@ -22,7 +22,7 @@ impl Nfa {
         self.states[s].next_by(s, &self.sets, &self.targets, byte)
     }
 
-    /// Takes the steps of a state of `from` at the end of a text: puts into `from` what it goes on to without a byte.
+    /// Takes the steps of a state of `from` at the end of a text: puts the states that it leads to without a byte into `from`.
     /// Returns its index if it is an end.
     pub fn follow_epsilons(&self, s: usize, from: &mut StateSet) -> Option<usize>
         requires exists { s < size self.now }

@@ -14,7 +14,7 @@ pub fn budget(automaton: &Nfa) -> usize {
         .saturating_add(64)
 }
 
-/// Takes an amount from what is left. Returns whether there was so much.
+/// Subtracts an amount from `left`. Returns whether there was enough.
 pub fn spend(left: &mut usize, amount: usize) -> bool
     ensures taken { IsTrue result → left.new + amount ≡ left.old }
     ensures less { left.new ≤ left.old }

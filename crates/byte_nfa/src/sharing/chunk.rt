@@ -1,4 +1,4 @@
-//! Chunks of states of one kind with the same bytes.
+//! Chunks of states of the same kind with the same bytes.
 
 ghost use Rattle.std.specs.Prelude.{◌≡◌, ◌<◌, ◌≤◌, length, IfOk, IfSome};
 ghost use Rattle.byte_nfa.specs.Reading.{is_read};
@@ -8,12 +8,12 @@ ghost use Rattle.byte_nfa.specs.inner.Chunks.{with_next, IsChunk};
 use crate::nfa::{Nfa, StateRef};
 use std::alloc::{AllocError, Global};
 
-/// States that follow each other in a list, and are alike but for what they go on to.
+/// States that follow each other in a list, and are alike except for their successors.
 #[derive(Drop)]
 pub struct Chunk {
     /// The first of these states.
     pub first: usize,
-    /// What they go on to.
+    /// Their successors.
     pub nexts: Vec<usize>,
     /// The place in the list behind them.
     pub end: usize,
@@ -59,7 +59,7 @@ impl Chunk {
     }
 }
 
-/// Returns what a state goes on to, if it is like another but for that. An end goes on to nothing: 0 stands for that.
+/// Returns the successor of a state, if the state is like another except for that. An end has none: 0 stands for that.
 fn next_of(automaton: &Nfa, s: usize, like: &StateRef<'_>) -> Option<usize>
     ensures { IfSome result
         (λ next. state automaton.now.states s ≡ with_next (is_read like.now) next) }

@@ -1,4 +1,4 @@
-//! The states that those of a list go on to without a byte.
+//! The states that the states of a list lead to without a byte.
 
 ghost use Rattle.std.specs.Prelude.{◌≤◌, IfOk, IfSome};
 ghost use Rattle.byte_nfa.specs.inner.Lists.{AcceptAlike};
@@ -7,7 +7,7 @@ use crate::nfa::{Nfa, StateRef};
 use crate::sharing::budget::spend;
 use std::alloc::{AllocError, Global};
 
-/// Returns the states of a list with what a union goes on to in its place, and no unions. `None` if that is too much work.
+/// Returns the states of a list with a union's successors in its place, and no unions. `None` if that is too much work.
 pub fn expanded(
     alloc: Global,
     automaton: &Nfa,

@@ -25,7 +25,7 @@ pub struct KnownLists {
 }
 
 impl KnownLists {
-    /// Returns no lists, for those of states below a count. Returns an error if memory runs out.
+    /// Returns an empty index of lists of states below a count.
     pub fn new(alloc: Global, state_count: usize) -> Result<KnownLists, AllocError>
         ensures { IfOk result (λ known. known.entries.items ≡ []) }
     {
@@ -38,7 +38,7 @@ impl KnownLists {
         })
     }
 
-    /// Returns the state of a list, if it is found. It may not be found if another one has its hash.
+    /// Returns the state of a list, if it is found. It may not be found if another list has its hash.
     pub fn state_of(&self, list: &[usize]) -> Option<usize>
         ensures { IfSome result (λ state. IsKnown self.now.entries.items list.now state) }
     {
@@ -51,7 +51,7 @@ impl KnownLists {
         }
     }
 
-    /// Returns the place of the entry of a list, if there is one; or, of a longer list, that of one with its hash.
+    /// Returns the place of the entry of a list, if there is any; or, of a longer list, the entry of a list with the same hash.
     fn place_of(&self, list: &[usize]) -> Option<usize> {
         match list {
             [state] => self.singles.get(*state)?.checked_sub(1),
@@ -59,7 +59,7 @@ impl KnownLists {
         }
     }
 
-    /// Keeps the place of the entry of a list. Returns an error if memory runs out.
+    /// Keeps the place of the entry of a list.
     fn keep_place(&mut self, list: &[usize], place: usize) -> Result<(), AllocError>
         ensures { self.new.entries.items ≡ self.old.entries.items }
     {
@@ -76,7 +76,7 @@ impl KnownLists {
         Ok(())
     }
 
-    /// Adds a list and its state. Returns an error if memory runs out.
+    /// Adds a list and its state.
     pub fn add(&mut self, list: Vec<usize>, state: usize) -> Result<(), AllocError>
         ensures { OnOk result
             ((l : List ℕ) (u : ℕ) → IsKnown self.new.entries.items l u

@@ -1,4 +1,4 @@
-//! The order of states in which those of one kind with the same bytes stand together.
+//! The order of states, where states of the same kind with the same bytes are adjacent.
 
 ghost use Rattle.std.specs.Prelude.{◌≡◌, ℕ, ◌↔◌, map, IfOk};
 ghost use Rattle.byte_nfa.specs.Steps.{HasNumber};
@@ -7,7 +7,7 @@ use crate::nfa::{Nfa, StateRef};
 use crate::sharing::sets::SetNumbers;
 use std::alloc::{AllocError, Global};
 
-/// What a state is put in order by.
+/// A state's position in the order.
 #[derive(Clone, Copy, PartialEq, Eq, PartialOrd, Ord)]
 struct Key {
     kind: u8,
@@ -17,8 +17,8 @@ struct Key {
     state: usize,
 }
 
-/// Returns states in an order in which those of one kind with the same bytes, and ends of one index, stand together, by the
-/// number of what they go on to.
+/// Returns states in an order where states of the same kind with the same bytes, and ends of the same index, are adjacent, by the
+/// number of their successors.
 pub fn ordered(
     alloc: Global,
     automaton: &Nfa,

@@ -3,10 +3,10 @@
 use bit_sets::ByteSet;
 use std::alloc::{AllocError, Global};
 
-/// How many sets of one place are compared. Where there are more, equal sets may have several numbers.
+/// The most sets of a place that are compared. Where there are more, equal sets may have several numbers.
 const COMPARED: usize = 16;
 
-/// Sets of bytes and their numbers, by which states are brought into an order.
+/// Sets of bytes and their numbers, which give states their order.
 #[derive(Drop)]
 pub struct SetNumbers {
     sets: Vec<ByteSet>,
@@ -28,7 +28,7 @@ impl SetNumbers {
         })
     }
 
-    /// Returns the number of a set, which has a new one if it is not found.
+    /// Returns the number of a set, which is new if the set is not found.
     pub fn number_of(&mut self, bytes: &ByteSet) -> Result<usize, AllocError> {
         let place = bytes.place();
         let last = self.last.get(place).copied().unwrap_or(0);

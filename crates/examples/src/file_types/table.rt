@@ -1,8 +1,8 @@
 //! A table of types, and the types of paths.
 //!
-//! A line of a table is the name of a type, a colon, and globs that are separated by a comma and a space, as in
-//! `make: [Mm]akefile, *.mk`. Blank lines, and those that begin with `#`, are skipped. A path has a type if one of its globs
-//! matches the last component of the path. `{c,h}` has no space, so it belongs to one glob.
+//! A line of a table is the name of a type, a colon, and globs that are separated by a comma and a space, as in `make:
+//! [Mm]akefile, *.mk`. Blank lines, and those that begin with `#`, are skipped. A path has a type if any glob of the type matches
+//! the last component of the path. `{c,h}` has no space, so it is a single glob.
 
 use crate::fault::Fault;
 use crate::text_file::TextFile;
@@ -28,8 +28,7 @@ impl Drop for Table<'_> {
 }
 
 impl<'t> Table<'t> {
-    /// Reads a table. Returns an error with its line if a line has no colon, a type has a line already or a glob cannot be
-    /// read, or an error if memory runs out.
+    /// Reads a table. Fails with the line if a line has no colon, a type has a line already or a glob cannot be read.
     pub fn read(alloc: Global, file: &'t TextFile) -> Result<Table<'t>, Fault> {
         let mut types = Types::new(alloc);
         types.push_lines(alloc, file)?;
@@ -51,8 +50,8 @@ fn last_component(path: &[u8]) -> &[u8] {
     path.rsplit(|byte| *byte == b'/').next().unwrap_or(path)
 }
 
-/// Returns the names at these indexes, each once and separated by `,`, or `-` if there are none. Equal names have indexes one
-/// after another.
+/// Returns the names at these indexes, each once and separated by `,`, or `-` if there are none. Equal names have adjacent
+/// indexes.
 fn joined(alloc: Global, names: &[&str], indexes: &[usize]) -> Result<String, AllocError> {
     let mut found = Vec::new(alloc);
     for index in indexes {
@@ -136,7 +135,7 @@ impl<'t> Types<'t> {
         Ok(())
     }
 
-    /// Adds a glob. Returns an error if it cannot be read, or memory runs out.
+    /// Adds a glob. Fails if it cannot be read.
     fn push_glob(&mut self, alloc: Global, glob: &str) -> Result<(), Error> {
         self.globs.push(Glob::new(alloc, glob)?)
     }

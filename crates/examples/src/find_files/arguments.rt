@@ -1,4 +1,4 @@
-//! What the arguments ask for.
+//! The parsed arguments.
 
 use crate::fault::Fault;
 use std::alloc::Global;
@@ -10,14 +10,14 @@ pub struct Flags {
     pub literal_separator: bool,
     pub ends_in_nul: bool,
     pub count: bool,
-    /// Whether `.gitignore` files are read, and what they ignore is left out.
+    /// Whether `.gitignore` files are read, and ignored paths are left out.
     pub ignored: bool,
     pub help: bool,
     pub version: bool,
 }
 
 impl Flags {
-    /// Turns on the option of this name. Returns whether there is one.
+    /// Turns on the option of this name. Returns whether there is such an option.
     fn set(&mut self, name: &str) -> bool {
         match name {
             "-i" => self.case_insensitive = true,
@@ -33,7 +33,7 @@ impl Flags {
     }
 }
 
-/// What the next argument may be.
+/// The expected kind of the next argument.
 #[derive(Clone, Copy)]
 enum Next {
     Any,
@@ -66,8 +66,8 @@ impl Drop for Arguments<'_> {
 }
 
 impl<'a> Arguments<'a> {
-    /// Reads the arguments. Returns an error if an option is unknown, if the folder is missing or empty, if there is neither a
-    /// glob nor a file of globs nor `--ignored`, or if memory runs out.
+    /// Reads the arguments. Fails if an option is unknown, if the folder is missing or empty, or if there is neither a glob nor a
+    /// file of globs nor `--ignored`.
     pub fn read(alloc: Global, arguments: &'a [String]) -> Result<Arguments<'a>, Fault> {
         let mut read = Arguments::new(alloc);
         for argument in arguments {
@@ -89,7 +89,7 @@ impl<'a> Arguments<'a> {
         }
     }
 
-    /// Takes the next argument. Returns an error if it is an unknown option, or memory runs out.
+    /// Takes the next argument. Fails if it is an unknown option.
     fn push(&mut self, argument: &'a str) -> Result<(), Fault> {
         let next = self.next;
         let is_option = argument.len() > 1 && argument.starts_with('-');

@@ -1,4 +1,4 @@
-//! The globs of a search: which paths match, and below which folders one can.
+//! The globs of a search: which paths match, and which folders can contain a match.
 
 use super::arguments::{Arguments, Flags};
 use crate::fault::Fault;
@@ -6,7 +6,7 @@ use crate::text_file::TextFile;
 use globset::{Candidate, Error, Glob, GlobBuilder, GlobSetBuilder, Searcher};
 use std::alloc::Global;
 
-/// What a walk does with a path.
+/// The actions of a walk for a path.
 #[derive(Clone, Copy)]
 pub struct Wanted {
     /// Prints it, if it is a file.
@@ -28,8 +28,8 @@ impl Drop for Globs {
 }
 
 impl Globs {
-    /// Reads the globs of the arguments, and those of the files that they name; without any of them every path matches. Returns
-    /// the error of the first one that is no glob, an error if a file cannot be read, or an error if memory runs out.
+    /// Reads the globs of the arguments, and of the files that they name; without any of them every path matches. Fails with the
+    /// error of the first text that is not a glob, or if a file cannot be read.
     pub fn read(rt: &HostRuntime, arguments: &Arguments<'_>) -> Result<Globs, Fault> {
         let mut globs = GlobSetBuilder::new(rt.alloc());
         push_all(rt.alloc(), &mut globs, arguments)?;
@@ -39,7 +39,7 @@ impl Globs {
         })
     }
 
-    /// Returns what a walk does with a path. It takes no memory.
+    /// Returns the actions of a walk for a path. It does not allocate.
     pub fn wanted(&mut self, path: &str) -> Wanted {
         let path = Candidate::new(path);
         Wanted {
@@ -77,7 +77,7 @@ fn push_files(
     Ok(())
 }
 
-/// Adds the globs of the lines of a file. Returns an error with its line if one is no glob.
+/// Adds the globs of the lines of a file. Fails with the line if a text is not a glob.
 fn push_lines(
     alloc: Global,
     globs: &mut GlobSetBuilder,
@@ -92,7 +92,7 @@ fn push_lines(
     Ok(())
 }
 
-/// Adds the glob of a line, if it has one.
+/// Adds the glob of a line, if there is any.
 fn push_line(
     alloc: Global,
     globs: &mut GlobSetBuilder,

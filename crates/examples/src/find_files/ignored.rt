@@ -7,7 +7,7 @@ use std::alloc::Global;
 use std::fs::{self, FileType};
 use std::io;
 
-/// The ignore files of the folder that the walk is in and of those above it, if they are asked for.
+/// The ignore files of the walk's current folder and of the folders above it, if they are wanted.
 pub struct Ignored {
     stack: Option<IgnoreStack>,
 }
@@ -20,7 +20,7 @@ impl Drop for Ignored {
 }
 
 impl Ignored {
-    /// Returns what no ignore file leaves out anything of yet. Returns an error if memory runs out.
+    /// Returns a state without ignore files, which leaves out nothing.
     pub fn new(alloc: Global, is_asked: bool) -> Result<Ignored, Error> {
         if !is_asked {
             return Ok(Ignored { stack: None });
@@ -36,7 +36,7 @@ impl Ignored {
 
     /// Goes to a folder, and reads its ignore files. `below` is the folder's path from the first folder on.
     ///
-    /// Returns the error if one is there and cannot be read, and an error if memory runs out.
+    /// Returns the error of a file that is there and cannot be read.
     pub fn enter(
         &mut self,
         rt: &HostRuntime,
@@ -55,8 +55,7 @@ impl Ignored {
         add_file(rt, stack, folder, ".gitignore")
     }
 
-    /// Returns whether an entry of the folder that the walk is in is ignored, or is named `.git`. Returns an error if memory runs
-    /// out.
+    /// Returns whether an entry of the current folder is ignored, or is named `.git`.
     pub fn leaves_out(&mut self, below: &str, is_folder: bool) -> Result<bool, Error> {
         let Some(stack) = &mut self.stack else {
             return Ok(false);
@@ -69,7 +68,7 @@ impl Ignored {
     }
 }
 
-/// Goes up to the first folder that is above this one, and from there down to it. Its path is empty, or ends in `/`.
+/// Goes up to the first common folder, and from there down to this folder. Its path is empty, or ends in `/`.
 fn go_to(stack: &mut IgnoreStack, folder: &[u8]) -> Result<(), Error> {
     for _ in 0..u64::MAX {
         if folder.starts_with(stack.folder()) {
@@ -84,8 +83,7 @@ fn go_to(stack: &mut IgnoreStack, folder: &[u8]) -> Result<(), Error> {
     }
 }
 
-/// Reads an ignore file of the folder that the walk is in, if it is there and a file. Returns the error if it cannot be read,
-/// and an error if memory runs out.
+/// Reads an ignore file of the current folder, if it is there and a file. Returns the error if it cannot be read.
 fn add_file(
     rt: &HostRuntime,
     stack: &mut IgnoreStack,

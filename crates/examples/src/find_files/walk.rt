@@ -1,10 +1,10 @@
-//! The walk: which folders are opened, and in which order paths are printed.
+//! The walk: the opened folders, and the order of the printed paths.
 //!
-//! There is no recursion: what is still to be done is kept in a vector. For each folder above the place of the walk it has the
-//! paths in it that come later, and nothing of what was printed.
+//! There is no recursion: a vector has the pending paths. For each folder above the current place these are its later paths;
+//! printed paths are not among them.
 //!
-//! The order of whole paths is that in which each folder has its entries sorted, where the name of a folder ends in `/`: so
-//! `a.c` comes before what is in `a`, since `.` is less than `/`.
+//! Paths are in the order of their bytes, where the path of a folder ends in `/`: so `a.c` comes before the contents of `a`,
+//! since `.` is less than `/`.
 
 use super::COMMAND;
 use super::arguments::Flags;
@@ -16,16 +16,16 @@ use std::fs::{self, DirEntry, FileType, ReadDir};
 use std::io::{self, BufWriter, ErrorKind, Write};
 use std::process::ExitCode;
 
-/// A walk through the folders below one.
+/// A walk through a tree of folders.
 pub struct Walk {
     globs: Globs,
     ignored: Ignored,
-    /// The paths of files that are still to be printed and of folders that are still to be opened, the next one last. Those of
-    /// folders end in `/`. Each begins with that of the first folder.
+    /// The paths of files to print and of folders to open, the next path last. Paths of folders end in `/`. Each path begins with
+    /// that of the first folder.
     pending: Vec<String>,
     /// How many bytes of a path are not printed: the first folder, and `/`.
     skipped: usize,
-    /// What a path ends in where it is printed.
+    /// The byte after each printed path.
     end: u8,
     /// Whether folders are counted.
     counts: bool,
@@ -78,8 +78,7 @@ impl Walk {
 
     /// Walks, and prints the paths that match. Returns the exit status.
     ///
-    /// What cannot be read is left out, with an error on standard error. Returns an error if standard output cannot be written,
-    /// or memory runs out.
+    /// Entries that cannot be read are left out, with an error on standard error. Fails if standard output cannot be written.
     pub fn run(mut self, rt: &HostRuntime) -> Result<ExitCode, Fault> {
         match BufWriter::new(rt.alloc(), io::writer(rt)) {
             Ok(mut output) => self.walk_through(rt, &mut output),
@@ -100,7 +99,7 @@ impl Walk {
         }
     }
 
-    /// Prints the numbers of folders, if they were asked for, and returns the exit status.
+    /// Prints the numbers of folders, if they are wanted, and returns the exit status.
     fn finish(&self, rt: &HostRuntime) -> ExitCode {
         if self.counts {
             let (opened, closed) = (self.opened, self.left_closed);
@@ -115,7 +114,7 @@ impl Walk {
         }
     }
 
-    /// Does what is pending, until nothing is.
+    /// Handles pending paths, until there are none.
     fn walk<W: Write>(&mut self, rt: &HostRuntime, output: &mut W) -> Result<(), Fault> {
         for _ in 0..u64::MAX {
             let Some(path) = self.pending.pop() else {
@@ -155,7 +154,7 @@ impl Walk {
         path.get(self.skipped..).unwrap_or(path)
     }
 
-    /// Opens a folder. What is to be done with its entries is then pending, in the order of their bytes.
+    /// Opens a folder. Its entries are then pending, in the order of their bytes.
     fn open(&mut self, rt: &HostRuntime, folder: &str) -> Result<(), Fault> {
         self.opened = self.opened.saturating_add(1);
         self.read_ignore_files(rt, folder)?;
@@ -170,7 +169,7 @@ impl Walk {
         Ok(())
     }
 
-    /// Reads the ignore files of a folder, if they are asked for.
+    /// Reads the ignore files of a folder, if they are wanted.
     fn read_ignore_files(&mut self, rt: &HostRuntime, folder: &str) -> Result<(), Fault> {
         let below = self.shown(folder);
         if let Some(error) = self.ignored.enter(rt, folder, below)? {
@@ -190,7 +189,7 @@ impl Walk {
         Ok(())
     }
 
-    /// Takes an entry of a folder. Its type is asked for only where it matters.
+    /// Takes an entry of a folder. It gets the type only where that matters.
     fn take(&mut self, rt: &HostRuntime, entry: &DirEntry) -> Result<(), Fault> {
         let path = entry.path().as_str();
         let shown = self.shown(path);
@@ -224,8 +223,8 @@ impl Walk {
         Ok(self.push(alloc, path, kind, wanted)?)
     }
 
-    /// Adds a path to those that are pending, if it is wanted. Links are not, unless ignore files are read, as git prints them;
-    /// what else is neither a file nor a folder is not.
+    /// Adds a path to the pending paths, if it is wanted. Links are left out, unless ignore files are read, as git prints them.
+    /// Other things that are neither a file nor a folder are left out, too.
     fn push(
         &mut self,
         alloc: Global,
@@ -242,7 +241,7 @@ impl Walk {
         }
     }
 
-    /// Adds a folder to what is pending, if it is wanted, and otherwise counts it as left closed.
+    /// Adds a folder to the pending paths, if it is wanted, and otherwise counts it as left closed.
     fn push_folder(
         &mut self,
         alloc: Global,
@@ -265,7 +264,7 @@ impl Walk {
     }
 }
 
-/// Returns what is pending before the first folder is opened: its path.
+/// Returns the pending paths before the first folder is opened: the folder's.
 pub fn first_pending(alloc: Global, folder: &str) -> Result<Vec<String>, AllocError> {
     let mut pending = Vec::new(alloc);
     pending.push(with_slash(alloc, folder.strip_suffix('/').unwrap_or(folder))?)?;

@@ -9,7 +9,7 @@ use std::alloc::AllocError;
 #[derive(Clone, Copy)]
 pub struct Named<'a> {
     names: &'a [String],
-    /// Whether NUL ends what is read and written.
+    /// Whether paths in the input and in the output end in NUL.
     pub ends_in_nul: bool,
 }
 
@@ -29,8 +29,8 @@ impl<'a> Named<'a> {
         }
     }
 
-    /// Reads the files. Those of deeper folders come last, and files of one folder as they are named. Returns an error if one
-    /// cannot be read, or memory runs out.
+    /// Reads the files. Those of deeper folders come last, and files of the same folder in the order of the arguments. Fails if a
+    /// file cannot be read.
     pub fn open(&self, rt: &HostRuntime) -> Result<Vec<IgnoreFile>, Fault> {
         let mut files = Vec::new(rt.alloc());
         for name in self.names {
@@ -41,8 +41,7 @@ impl<'a> Named<'a> {
     }
 }
 
-/// Inserts a file after those of its folder, and those of folders with a path that is no longer. Returns an error if memory runs
-/// out.
+/// Inserts a file after those of its folder, and after the files of folders with a path that is no longer.
 fn insert_by_depth(files: &mut Vec<IgnoreFile>, file: IgnoreFile) -> Result<(), AllocError> {
     let depth = file.folder().len();
     let before = files.iter().take_while(|it| it.folder().len() <= depth);

@@ -12,8 +12,7 @@ struct Found {
     line: DecidingLine,
 }
 
-/// Adds what decides about each path, and the path. The files are in the order of [`super::arguments::Named::open`]. Returns an
-/// error if memory runs out.
+/// Adds what decides about each path, and the path. The files are in the order of [`super::arguments::Named::open`].
 pub fn push_deciding(
     alloc: Global,
     files: &mut [IgnoreFile],
@@ -31,7 +30,7 @@ pub fn push_deciding(
     Ok(())
 }
 
-/// Adds the file, the number and the text of a line, each with what ends it. Returns an error if memory runs out.
+/// Adds the file, the number and the text of a line, each with what ends it.
 fn push_found(
     alloc: Global,
     files: &[IgnoreFile],
@@ -82,7 +81,7 @@ fn push_fields(
     }
 }
 
-/// Returns the line that decides about a path: the one that ignores the highest folder above it that is ignored, if there is one.
+/// Returns the line that decides about a path: the line that ignores its highest ignored folder, if there is any.
 fn deciding_below(files: &mut [IgnoreFile], path: &[u8], is_folder: bool) -> Option<Found> {
     for (end, byte) in path.iter().enumerate() {
         if *byte == b'/' {
@@ -95,7 +94,7 @@ fn deciding_below(files: &mut [IgnoreFile], path: &[u8], is_folder: bool) -> Opt
     deciding(files, path, is_folder)
 }
 
-/// Returns the line that decides about a path alone: that of the last file that has such a line.
+/// Returns the line that decides about a path alone: the line of the last file with such a line.
 fn deciding(files: &mut [IgnoreFile], path: &[u8], is_folder: bool) -> Option<Found> {
     for index in (0..files.len()).rev() {
         if let Some(line) = files[index].deciding_line(path, is_folder) {

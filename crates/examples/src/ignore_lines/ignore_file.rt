@@ -1,4 +1,4 @@
-//! An ignore file that is for the folder in which it is.
+//! An ignore file for its own folder.
 
 use crate::fault::Fault;
 use crate::text_file::TextFile;
@@ -32,7 +32,7 @@ pub struct DecidingLine {
 }
 
 impl IgnoreFile {
-    /// Takes a file, and reads its rules. Returns an error if memory runs out.
+    /// Takes a file, and reads its rules.
     pub fn new(alloc: Global, text: TextFile) -> Result<IgnoreFile, Fault> {
         let searcher = RulesSearcher::new(alloc, &Rules::new(alloc, text.bytes())?)?;
         Ok(IgnoreFile { text, searcher })
@@ -43,7 +43,7 @@ impl IgnoreFile {
         self.text.name()
     }
 
-    /// Returns the folder in which the file is, by its name: empty, or with `/` at its end.
+    /// Returns the file's folder, by its name: empty, or with `/` at its end.
     pub fn folder(&self) -> &[u8] {
         let name = self.text.name().as_bytes();
         match memrchr(b'/', name) {

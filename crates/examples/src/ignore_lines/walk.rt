@@ -1,4 +1,4 @@
-//! A walk over the folders of paths, one path after another.
+//! A walk over the folders of paths, in their order.
 
 use git_ignore::IgnoreStack;
 use globset::Error;
@@ -7,7 +7,8 @@ use std::alloc::Global;
 
 /// The folder of the last path, with the rules of the ignore file of the top folder.
 ///
-/// What is said of a folder is kept while paths are below it. So paths that come as a walk finds them ask for each folder once.
+/// It keeps the decision about a folder while paths are below it. So for paths in the order of a walk each folder is decided
+/// once.
 pub struct Walk {
     stack: IgnoreStack,
 }
@@ -20,14 +21,14 @@ impl Drop for Walk {
 }
 
 impl Walk {
-    /// Returns a walk in the top folder, which has this ignore file. Returns an error if memory runs out.
+    /// Returns a walk in the top folder, which has this ignore file.
     pub fn new(alloc: Global, file: &[u8]) -> Result<Walk, Error> {
         let mut stack = IgnoreStack::new(alloc)?;
         stack.add_file(file)?;
         Ok(Walk { stack })
     }
 
-    /// Goes to the folder of a file, and returns whether the file is ignored. Returns an error if memory runs out.
+    /// Goes to the folder of a file, and returns whether the file is ignored.
     pub fn ignores(&mut self, path: &[u8]) -> Result<bool, Error> {
         let below = self.go_up(path);
         let name = match memrchr(b'/', below) {

@@ -1,13 +1,14 @@
-//! The rules of an owners file, read as GitHub reads those of a `CODEOWNERS`.
+//! The rules of an owners file, with the meaning of a `CODEOWNERS` file on GitHub.
 //!
 //! - `#` begins a comment, which ends with the line. A line that has nothing else is skipped.
-//! - Every other line is a rule: a pattern, and after spaces or tabs its owners. They may be missing: then what the pattern
-//!   matches has no owners.
+//! - Every other line is a rule: a pattern, and after spaces or tabs its owners. They may be missing: then matched paths have no
+//!   owners.
 //! - The last rule that matches a path decides.
-//! - `*` and `?` do not match `/`. `**/` at the start and `/**/` match any folders, and `/**` at the end what is in a folder.
-//! - A pattern with a `/` that is not its last character matches from the root. Every other one matches at any depth.
-//! - A pattern matches everything in the folders that it matches, unless it ends in `/*`. One that ends in `/` matches nothing
-//!   else.
+//! - `*` and `?` do not match `/`. `**/` at the start and `/**/` match any folders, and `/**` at the end matches the contents of
+//!   a folder.
+//! - A pattern with a `/` that is not its last character matches from the root. Every other pattern matches at any depth.
+//! - A pattern matches everything in the folders that it matches, unless it ends in `/*`. A pattern that ends in `/` matches
+//!   nothing else.
 //!
 //! It differs from GitHub in this: `{a,b}` and `[ab]` match `a` and `b`, owners are not looked up, and a pattern that cannot be
 //! read is an error.
@@ -36,7 +37,7 @@ impl Drop for Rules<'_> {
 }
 
 impl<'t> Rules<'t> {
-    /// Reads an owners file. Returns an error with its line if a pattern cannot be read, or an error if memory runs out.
+    /// Reads an owners file. Fails with the line if a pattern cannot be read.
     pub fn read(alloc: Global, file: &'t TextFile) -> Result<Rules<'t>, Fault> {
         let mut patterns = Patterns::new(alloc);
         patterns.push_lines(alloc, file)?;
@@ -108,7 +109,7 @@ impl<'t> Patterns<'t> {
         Ok(())
     }
 
-    /// Adds a glob and its owners. Returns an error if the glob cannot be read, or memory runs out.
+    /// Adds a glob and its owners. Fails if the glob cannot be read.
     fn push_glob(&mut self, alloc: Global, glob: &str, owners: &'t str) -> Result<(), Error> {
         let glob = GlobBuilder::new(glob).literal_separator(true).build(alloc)?;
         self.globs.push(glob)?;

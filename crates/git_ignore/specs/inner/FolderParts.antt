@@ -4,7 +4,7 @@ use Rattle.git_ignore.specs.Folders.{or_else}
 use Rattle.git_ignore.specs.declared.decision.Decision.{Decision}
 use Rattle.git_ignore.specs.declared.decision.Decision.TheVariants.{Undecided}
 
--- what is said of the folders that end before `i` was put, and the others have the decisions that they had
+-- the decisions about the folders that end before `i` were put, and the others are unchanged
 pub record ArePutUpTo (say : List ℕ → Decision) (path : List ℕ) (start i : ℕ) (old new : List Decision) : Type 0 where
   pub before : (j : ℕ) → j < start → get_or new j Undecided ≡ get_or old j Undecided
   pub put : (j : ℕ) → j < i → start ≤ j → get_or path j 0 ≡ 47 → get_or new j Undecided ≡ or_else (get_or old j Undecided) (say (drop start (take j path)))

@@ -1,4 +1,4 @@
--- A walk by what is stored of it. No contract of the crate's public calls cites this.
+-- A walk by its stored form. No contract of the crate's public calls cites this.
 use Rattle.std.specs.Prelude.{◌≡◌, ℕ, Bool, List, reverse}
 use Rattle.globset.specs.SetValue.{ScratchValue}
 use Rattle.git_ignore.specs.Folders.{IgnoreFile, is_below_ignored}
@@ -7,7 +7,7 @@ use Rattle.git_ignore.specs.declared.folder_rules.FolderRules.{FolderRules}
 use Rattle.git_ignore.specs.declared.stack.FolderLevel.{FolderLevel}
 use Rattle.git_ignore.specs.inner.Stacks.{AreInFolders, AreLevels, FitAll, above_of, files_of, here_of}
 
--- the walk in a folder, with its files and those above it, and with the levels above it, the one right above it first
+-- the walk in a folder, with its files and the files above it, and with the levels above it, from the nearest up
 abbrev pub walk_of : List ℕ → List IgnoreFile → List FolderLevel → StackValue
 walk_of folder files levels = record { here = here_of folder files levels; above = above_of folder files levels }
 

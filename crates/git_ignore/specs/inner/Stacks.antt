@@ -1,4 +1,4 @@
--- What is stored of a walk. No contract of the crate's public calls cites this.
+-- The stored form of a walk. No contract of the crate's public calls cites this.
 use Rattle.std.specs.Prelude.{◌≡◌, ◌≤◌, ℕ, List, [], ◌∷◌, map, length, take, drop, All}
 use Rattle.globset.specs.SetValue.{ScratchValue}
 use Rattle.git_ignore.specs.Folders.{IgnoreFile, is_below_ignored}
@@ -18,13 +18,13 @@ files_of files = map file_of files
 abbrev pub FitAll : ScratchValue → List FolderRules → Type 0
 FitAll scratch files = All (λ (f : FolderRules). FitsRules scratch f.rules) files
 
--- The level is of a folder above the one of this path, and it is right that it is ignored or not.
+-- The level is of a folder above this path's folder, and it is marked as ignored exactly if it is.
 pub record IsLevel (path : List ℕ) (known : List IgnoreFile) (l : FolderLevel) : Type 0 where
   pub folder : l.folder ≤ length path
   pub files : l.files ≤ length known
   pub ignored : l.is_ignored ≡ is_below_ignored (take l.files known) (take l.folder path)
 
--- the levels above a folder, the one right above it first
+-- the levels above a folder, from the nearest up
 abbrev pub AreLevels : List ℕ → List IgnoreFile → List FolderLevel → Type 0
 AreLevels folder files [] = Unit {0}
 AreLevels folder files (l ∷ ls) = IsLevel folder files l × AreLevels (take l.folder folder) (take l.files files) ls
@@ -33,12 +33,12 @@ AreLevels folder files (l ∷ ls) = IsLevel folder files l × AreLevels (take l.
 abbrev pub bytes_of : List IgnoreFile → List (List ℕ)
 bytes_of files = map (λ (f : IgnoreFile). f.bytes) files
 
--- the folder of a walk, of whose files the first are those of the folders above
+-- the folder of a walk, whose first files belong to the folders above
 abbrev pub here_of : List ℕ → List IgnoreFile → List FolderLevel → OpenFolder
 here_of folder files [] = record { path = folder; files = bytes_of files }
 here_of folder files (l ∷ ls) = record { path = folder; files = bytes_of (drop l.files files) }
 
--- the folders above it, the one right above it first
+-- the folders above it, from the nearest up
 abbrev pub above_of : List ℕ → List IgnoreFile → List FolderLevel → List OpenFolder
 above_of folder files [] = []
 above_of folder files (l ∷ ls) = here_of (take l.folder folder) (take l.files files) ls ∷ above_of (take l.folder folder) (take l.files files) ls
@@ -48,7 +48,7 @@ abbrev pub AreIn : List ℕ → List IgnoreFile → Type 0
 AreIn folder [] = Unit {0}
 AreIn folder (f ∷ fs) = (f.folder ≡ folder) × AreIn folder fs
 
--- each file is in the folder that it is one of the files of
+-- each file is in the folder to whose files it belongs
 abbrev pub AreInFolders : List ℕ → List IgnoreFile → List FolderLevel → Type 0
 AreInFolders folder files [] = AreIn folder files
 AreInFolders folder files (l ∷ ls) = AreIn folder (drop l.files files) × AreInFolders (take l.folder folder) (take l.files files) ls

@@ -4,7 +4,7 @@ use base.Stored.{Gv, gnum, gnil, gcons}
 use Rattle.byte_nfa.specs.Steps.{NfaValue}
 use Rattle.byte_nfa.specs.contracts.nfa.Nfa as Nfa
 
--- each tree of numbers in front of a list, from which it can be read back
+-- each tree of numbers in front of a list, so that it can be read back
 abbrev pub flat : Gv → List ℕ → List ℕ
 flat gnil xs = 0 ∷ xs
 flat (gnum n) xs = 1 ∷ n ∷ xs

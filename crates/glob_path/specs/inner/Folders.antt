@@ -1,4 +1,4 @@
--- The folders of keys: what they hold, and where a text is among them.
+-- The folders of keys: their contents, and the position of a text among them.
 use Rattle.std.specs.Prelude.{ℕ, ◌-◌, ◌↔◌, ◌⊎◌, List, [], ◌∷◌, map, length, take, Contains}
 use Rattle.std.proofs.Common.{Vec}
 use Rattle.std.specs.List.Sorted.{IsStrictlySortedBy}

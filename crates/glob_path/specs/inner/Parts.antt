@@ -1,4 +1,4 @@
--- Keys in parts: how many indexes the tables have for a path, and what is true of all keys.
+-- Keys in parts: the number of indexes that the tables have for a path, and the invariants of all keys.
 use Rattle.std.specs.Prelude.{◌≡◌, ◌≢◌, ℕ, ◌+◌, ◌↔◌, ◌⊎◌, Option, MatchOption, List, [], length}
 use Rattle.byte_keys.specs.Entries.{Entry, indexes_under}
 use Rattle.byte_keys.specs.declared.anchor.Anchor.TheVariants.{Start, End}

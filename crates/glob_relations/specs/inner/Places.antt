@@ -60,7 +60,7 @@ is_last_place Dot = false
 is_last_place TwoDots = false
 is_last_place Inside = true
 
--- the bytes lead from the place to one at which a path may end
+-- the bytes lead from the place to a place where a path may end
 abbrev pub ends_in : Option Place → List ℕ → Bool
 ends_in None y = false
 ends_in (Some p) [] = is_last_place p

@@ -27,11 +27,11 @@ AcceptsIn m list y k = (t : ℕ) × IsTrue (has_number t list) × Accepts m.stat
 abbrev pub AreStates : ℕ → List ℕ → Type 0
 AreStates n list = AreBelow n list × ((i : ℕ) → i + 1 < length list → slice_index list (i + 1) < slice_index list i)
 
--- from the row the text leads to what is wanted
+-- from the row the text leads to a wanted end
 abbrev pub WantsRow : NfaValue → ℕ → Row → List ℕ → Type 0
 WantsRow m n row y = IsTrue (ends_in (Some row.place) y) × IsWantedBy n (AcceptsIn m row.states.items y)
 
--- from the start the text leads to what is wanted
+-- from the start the text leads to a wanted end
 abbrev pub WantsFrom : NfaValue → ℕ → Domain → List ℕ → Type 0
 WantsFrom m n domain y = IsTrue (ends_in (Some (first_place domain)) y) × IsWantedBy n (IsReached m y)
 
@@ -39,7 +39,7 @@ WantsFrom m n domain y = IsTrue (ends_in (Some (first_place domain)) y) × IsWan
 abbrev pub HasRow : Rows → ℕ → Row → Type 0
 HasRow rows i row = slice_get rows.seen.keys i ≡ Some row
 
--- from some row the text leads to what is wanted
+-- from some row the text leads to a wanted end
 abbrev pub WantsSome : NfaValue → ℕ → Rows → List ℕ → Type 0
 WantsSome m n rows y = (j : ℕ) × (r : Row) × HasRow rows j r × WantsRow m n r y
 
@@ -51,11 +51,11 @@ IsFirstRow m domain row = (row.place ≡ first_place domain) × ((y : List ℕ) 
 abbrev pub GoesTo : NfaValue → Row → ℕ → Row → Type 0
 GoesTo m row b next = (place_after row.place b ≡ Some next.place) × ((y : List ℕ) (k : ℕ) → AcceptsIn m row.states.items (b ∷ y) k ↔ AcceptsIn m next.states.items y k)
 
--- the row came from a lower one by a byte
+-- the row came from a lower row by a byte
 abbrev pub CameFrom : NfaValue → Rows → ℕ → Row → Origin → Type 0
 CameFrom m rows i row origin = (p : Row) × (origin.row < i) × (origin.byte < 256) × HasRow rows origin.row p × GoesTo m p origin.byte row
 
--- what is known of the rows so far
+-- the invariant of the rows so far
 pub record AreRows (m : NfaValue) (domain : Domain) (rows : Rows) : Type 0 where
   pub some : 0 < length rows.seen.keys
   pub len : length rows.origins.items ≡ length rows.seen.keys
@@ -87,7 +87,7 @@ AddsRow old new row origin =
     ((new.seen.keys ≡ old.seen.keys) × (new.origins.items ≡ old.origins.items) × ((i : ℕ) × (r : Row) × HasRow old i r × (r.place ≡ row.place) × (r.states.items ≡ row.states.items)))
     ⊎ ((new.seen.keys ≡ old.seen.keys ++ row ∷ []) × (new.origins.items ≡ old.origins.items ++ origin ∷ []))
 
--- what is wanted from the row of the number i after the byte is wanted from some row
+-- each text that leads to a wanted end from the row of the number i after the byte also does so from some row
 abbrev pub IsFollowedBy : NfaValue → ℕ → Rows → ℕ → ℕ → Type 0
 IsFollowedBy m n rows i b = (row : Row) → HasRow rows i row → (y : List ℕ) → WantsRow m n row (b ∷ y) → WantsSome m n rows y
 
@@ -103,15 +103,15 @@ AreDone m n rows next = (i : ℕ) → i < next → IsFollowed m n rows i × ((ro
 abbrev pub AreAlike : NfaValue → ℕ → ℕ → Type 0
 AreAlike m b c = AreEquivalent m.states b c × (kind_of b ≡ kind_of c)
 
--- the byte is the first, or not like the one before it
+-- the byte is the first, or not like the byte before it
 abbrev pub BeginsClass : ByteSet → ℕ → Type 0
 BeginsClass boundaries b = (b ≡ 0) ⊎ ((c : ℕ) × (b ≡ c + 1) × IsTrue (has_byte boundaries c))
 
--- a byte that is not in the set is like the one after it
+-- a byte that is not in the set is like the byte after it
 abbrev pub AreBoundaries : NfaValue → ByteSet → Type 0
 AreBoundaries m set = (b : ℕ) → b + 1 < 256 → (IsTrue (has_byte set b) → ⊥) → AreAlike m b (b + 1)
 
--- what a search tells: a path that is wanted, or that there is none, or that there are more rows than the limit
+-- the answer of a search: a wanted path, or that there is none, or that there are more rows than the limit
 abbrev pub TellsSearch : NfaValue → ℕ → Domain → ℕ → Answer → Type 0
 TellsSearch m n domain limit (Found path) = AllBytes path.items × WantsFrom m n domain path.items
 TellsSearch m n domain limit Nothing = (y : List ℕ) → AllBytes y → WantsFrom m n domain y → ⊥

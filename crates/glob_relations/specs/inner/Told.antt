@@ -1,4 +1,4 @@
--- What a search says of globs.
+-- The meaning of a search's answer for globs.
 use Rattle.glob_relations.specs.declared.search.Answer.{Answer}
 use Rattle.glob_relations.specs.declared.search.Answer.TheVariants.{Found, Nothing, Limit}
 use Rattle.glob_relations.specs.declared.relations.Coverage.{Coverage}

@@ -1,4 +1,4 @@
--- What the states that are added for tokens match.
+-- The texts that the states of tokens match.
 use Rattle.std.specs.Prelude.{◌≡◌, ◌↔◌, ℕ, Bool, List, length, IsTrue}
 use Rattle.glob_syntax.specs.declared.options.Options.{Options}
 use Rattle.glob_syntax.specs.Token.{Token, Tokens}

@@ -28,7 +28,7 @@ abbrev pub some_all_simple_pass : (Token → Bool) → List Flat → Bool
 some_all_simple_pass test [] = false
 some_all_simple_pass test (t ∷ ts) = all_simple_pass test (t ∷ ts)
 
--- the first token is no brace or comma and passes the one test, and the tokens after it pass the other
+-- the first token is no brace or comma and passes the first test, and the tokens after it pass the second
 abbrev pub first_and_rest : (Token → Bool) → (List Flat → Bool) → List Flat → Bool
 first_and_rest test rest [] = false
 first_and_rest test rest (t ∷ ts) = is_simple_that test t && rest ts
@@ -37,7 +37,7 @@ first_and_rest test rest (t ∷ ts) = is_simple_that test t && rest ts
 abbrev pub are_literals : List Flat → Bool
 are_literals ts = all_simple_pass (is_literal_except []) ts
 
--- literals, perhaps none, and then one last token that passes the test
+-- literals, perhaps none, and then a last token that passes the test
 abbrev pub literals_and_last : (Token → Bool) → List Flat → Bool
 literals_and_last test [] = false
 literals_and_last test (t ∷ []) = is_simple_that test t

@@ -1,4 +1,4 @@
--- What the builder of states keeps on its way from the last token to the first.
+-- The state of the builder on its way from the last token to the first.
 use Rattle.std.specs.Prelude.{◌≡◌, ℕ, Bool, true, false, not, ◌&&◌, ◌||◌, ◌+◌, ◌<◌, ◌≤◌, List, [], ◌∷◌, length, map, reverse}
 use Rattle.glob_syntax.specs.declared.options.Options.{Options}
 use Rattle.glob_syntax.specs.Token.{Branches, none, branch}
@@ -13,9 +13,9 @@ use Rattle.glob_strategy.specs.inner.TokenStates.{IsBuilt, AreBuilt}
 use Rattle.glob_strategy.specs.inner.Building.{Grows, BuildsToken}
 use Rattle.glob_strategy.specs.declared.groups.Frame as held
 
--- An open group, or the whole glob. Of the branch that is being built: where its tokens so far begin, and whether they are
--- blank. Where the group's branches lead to. Of its later branches, which are done: where the kept ones begin, in the order
--- of the text, and whether all are blank.
+-- An open group, or the whole glob. Its current branch: where its tokens so far begin, and whether they are blank. Where the
+-- group's branches lead. Its later branches, which are done: where the kept branches begin, in the order of the text, and whether
+-- all are blank.
 pub record Frame : Type 0 where
   pub start : ℕ
   pub blank : Bool
@@ -46,7 +46,7 @@ frames_of fs = map frame_of (reverse fs)
 abbrev pub fresh : ℕ → Frame
 fresh e = frame e true e [] true
 
--- one more token, before those so far
+-- another token, before the others
 abbrev pub led : ℕ → Bool → Frame → Frame
 led s b f = frame s (b && f.blank) f.exit f.starts f.rest_blank
 
@@ -54,11 +54,11 @@ abbrev pub with_start : Bool → ℕ → List ℕ → List ℕ
 with_start true s ss = s ∷ ss
 with_start false s ss = ss
 
--- the branch is done, and the one before it begins
+-- the branch is done, and the branch before it begins
 abbrev pub ended : Options → Frame → Frame
 ended o f = frame f.exit true f.exit (with_start (o.empty_alternates || not f.blank) f.start f.starts) (f.blank && f.rest_blank)
 
--- what a group skips to: its kept branches, or its exit
+-- the targets of a group: its kept branches, or its exit
 abbrev pub targets_of : List ℕ → ℕ → List ℕ
 targets_of [] e = e ∷ []
 targets_of (s ∷ ss) e = s ∷ ss
@@ -70,7 +70,7 @@ abbrev pub outer_start : List Frame → ℕ → ℕ
 outer_start [] e = e
 outer_start (f ∷ fs) e = f.start
 
--- the frames, the innermost first, are those of these levels; the whole leads to e
+-- the frames, the innermost first, are the frames of these levels; the whole leads to e
 abbrev pub AreOpen : Options → List State → List Frame → List Branches → ℕ → Type 0
 AreOpen o a [] [] e = Unit {0}
 AreOpen o a [] (b ∷ more) e = ⊥
@@ -99,7 +99,7 @@ abbrev pub levels_weight : Options → List Branches → ℕ
 levels_weight o [] = 0
 levels_weight o (bs ∷ more) = branches_weight o bs + levels_weight o more
 
--- the states that were added are those of the levels of the tokens so far
+-- the added states are the states of the levels of the tokens so far
 pub record Stands (o : Options) (old new : NfaValue) (fs : List Frame) (levels : List Branches) (e : ℕ) : Type 0 where
   pub grows : Grows old new
   pub count : size new ≤ size old + levels_weight o levels
@@ -107,7 +107,7 @@ pub record Stands (o : Options) (old new : NfaValue) (fs : List Frame) (levels :
   pub blank : AreBlank fs levels
   pub builds : BuildsLevels o fs levels old.states new.states e
 
--- ---- one token that is no brace or comma
+-- ---- a token that is no brace or comma
 
 abbrev pub flat_weight : Options → Flat → ℕ
 flat_weight o (simple t) = token_weight o t

@@ -11,7 +11,7 @@ use Rattle.bit_sets.specs.Bytes.{has_byte}
 use Rattle.byte_nfa.specs.Steps.{State, bytes_state, union_state, loop_state, state}
 use Rattle.bit_sets.specs.declared.byte_set.ByteSet.{ByteSet}
 
--- ---- one state
+-- ---- a state
 
 -- the set has the bytes that pass the test
 abbrev pub IsSetOf : (ℕ → Bool) → ByteSet → Type 0
@@ -33,7 +33,7 @@ Loop a s test e = (w : ByteSet) × (state a s ≡ loop_state w (e ∷ [])) × Is
 
 -- ---- whole characters
 
--- the states from s on read bytes that pass these tests, one after another, and lead to e
+-- the states from s on read bytes that pass these tests, in order, and lead to e
 abbrev pub ReadsEach : List State → ℕ → List (ℕ → Bool) → ℕ → Type 0
 ReadsEach a s [] e = s ≡ e
 ReadsEach a s (test ∷ tests) e = (t : ℕ) × Bytes a s test t × ReadsEach a t tests e
@@ -45,21 +45,21 @@ AreRead a [] (row ∷ rows) e = ⊥
 AreRead a (s ∷ ss) [] e = ⊥
 AreRead a (s ∷ ss) (row ∷ rows) e = ReadsEach a s row e × AreRead a ss rows e
 
--- the states of such a `?`: s skips to one for each row
+-- the states of such a `?`: s skips to a state for each row
 abbrev pub IsCharacter : Options → List State → ℕ → ℕ → Type 0
 IsCharacter o a s e = (ss : List ℕ) × (state a s ≡ union_state ss) × AreRead a ss (wild_rows o) e
 
 -- ---- tokens
 
--- what these bytes of a literal match
+-- the matches of these bytes of a literal
 abbrev pub spells : Options → List ℕ → List ℕ → Bool
 spells o bytes y = bytes_eq (compared o y) (compared o bytes)
 
--- what one byte of a literal matches
+-- the matches of a byte of a literal
 abbrev pub is_letter : Options → ℕ → ℕ → Bool
 is_letter o b c = spells o (b ∷ []) (c ∷ [])
 
--- the states from s on are those of these bytes of a literal, and lead to e
+-- the states from s on are the states of these bytes of a literal, and lead to e
 abbrev pub IsSpelled : Options → List State → ℕ → List ℕ → ℕ → Type 0
 IsSpelled o a s [] e = s ≡ e
 IsSpelled o a s (b ∷ bs) e = (t : ℕ) × Bytes a s (is_letter o b) t × IsSpelled o a t bs e
@@ -68,7 +68,7 @@ IsSpelled o a s (b ∷ bs) e = (t : ℕ) × Bytes a s (is_letter o b) t × IsSpe
 abbrev pub IsToSlash : List State → ℕ → ℕ → Type 0
 IsToSlash a s e = (t u : ℕ) × (state a s ≡ union_state (e ∷ t ∷ [])) × Loop a t is_any_byte u × Bytes a u is_slash e
 
--- the states from s on are those of the tokens, and lead to e
+-- the states from s on are the states of the tokens, and lead to e
 abbrev mutual
   pub IsBuilt : Options → List State → ℕ → Tokens → ℕ → Type 0
   IsBuilt o a s end e = s ≡ e

@@ -6,7 +6,7 @@ ghost use Rattle.glob_strategy.specs.StrategyMeaning.{strategy_seen};
 
 use crate::strategy::MatchStrategy;
 
-/// The key or the extension of a strategy, if it has one, is bytes.
+/// The key or the extension of a strategy, if any, is bytes.
 pub fn has_bytes(strategy: &MatchStrategy)
     ensures { HasBytes (strategy_seen strategy.now) }
 {

@@ -1,4 +1,4 @@
-//! What the tokens of a glob must be for a strategy to fit it.
+//! The conditions of the strategies on a glob's tokens.
 
 ghost use Rattle.std.specs.Prelude.{◌≡◌};
 ghost use Rattle.glob_syntax.specs.Views.{flat_of, flats};
@@ -8,7 +8,7 @@ ghost use Rattle.glob_strategy.specs.inner.FlatTests.{all_simple_pass, is_beginn
 
 use glob_syntax::{Options, Token};
 
-/// Returns whether the tokens are one or more literals.
+/// Returns whether the tokens are literals, at least one.
 pub fn is_whole_path(tokens: &[Token]) -> bool
     ensures { result ≡ is_whole_path (flats tokens.now) }
 {
@@ -18,7 +18,7 @@ pub fn is_whole_path(tokens: &[Token]) -> bool
     are_literals_except(tokens, [].as_slice())
 }
 
-/// Returns whether the tokens are `RecursivePrefix` and one or more literals other than `/`.
+/// Returns whether the tokens are `RecursivePrefix` and at least one literal, none of them `/`.
 pub fn is_last_component(tokens: &[Token]) -> bool
     ensures { result ≡ is_last_component (flats tokens.now) }
 {
@@ -29,7 +29,7 @@ pub fn is_last_component(tokens: &[Token]) -> bool
     }
 }
 
-/// Returns whether the tokens are `RecursivePrefix` and one or more literals.
+/// Returns whether the tokens are `RecursivePrefix` and at least one literal.
 pub fn is_last_components(tokens: &[Token]) -> bool
     ensures { result ≡ is_last_components (flats tokens.now) }
 {
@@ -123,7 +123,7 @@ pub fn is_below_folder(tokens: &[Token]) -> bool
     is_recursive_suffix(last) && are_literals_except(before, [].as_slice())
 }
 
-/// Returns whether the tokens are `RecursivePrefix` and one or more tokens of which none matches `/`.
+/// Returns whether the tokens are `RecursivePrefix` and at least one token, and none of these matches `/`.
 pub fn is_by_last_component(options: Options, tokens: &[Token]) -> bool
     ensures { result ≡ is_by_last_component options (flats tokens.now) }
 {
@@ -158,7 +158,7 @@ fn match_no_slash(options: Options, tokens: &[Token]) -> bool
     true
 }
 
-/// Returns whether the token is a literal whose character is not one of these.
+/// Returns whether the token is a literal other than these characters.
 pub fn is_literal_except(token: &Token, excluded: &[char]) -> bool
     ensures { result ≡ is_simple_that (is_literal_except excluded.now) (flat_of token.now) }
 {

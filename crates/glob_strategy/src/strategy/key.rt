@@ -12,8 +12,6 @@ use glob_syntax::Token;
 use std::alloc::{AllocError, Global};
 
 /// Returns the bytes of the tokens that are literals, in order. Its memory has no room for more.
-///
-/// Returns an error if memory runs out, and no other.
 pub fn literal_text(alloc: Global, tokens: &[Token]) -> Result<Vec<u8>, AllocError>
     ensures { IfOk result (λ text. text.items ≡ literal_text (flats tokens.now)) }
 {
@@ -21,8 +19,6 @@ pub fn literal_text(alloc: Global, tokens: &[Token]) -> Result<Vec<u8>, AllocErr
 }
 
 /// Returns the bytes of the tokens that are literals, in order, and `/`. Its memory has no room for more.
-///
-/// Returns an error if memory runs out, and no other.
 pub fn literal_text_and_slash(alloc: Global, tokens: &[Token]) -> Result<Vec<u8>, AllocError>
     ensures { IfOk result (λ text. text.items ≡ literal_text (flats tokens.now) ++ slash ∷ []) }
 {
@@ -56,7 +52,7 @@ fn literal_len(tokens: &[Token]) -> usize {
 }
 
 /// Returns the tokens from the last literal `.` on if all tokens after it are literals other than `/`, and `None` otherwise. It
-/// reads the tokens from the end to that `.`, or to the first one that is not such a literal.
+/// reads the tokens from the end to that `.`, or to the first that is not such a literal.
 pub fn ending(tokens: &[Token]) -> Option<&[Token]>
     ensures text { option_map (λ last. literal_text (flats last.now)) result
         ≡ ending (flats tokens.now) }

@@ -11,15 +11,15 @@ passes [] (c ∷ cs) = false
 passes (test ∷ tests) [] = false
 passes (test ∷ tests) (c ∷ cs) = passes tests cs && test c
 
--- the bytes after the first byte of a character, but for some second ones
+-- the bytes after the first byte of a character, except some second bytes
 abbrev pub continues : ℕ → Bool
 continues = is_between (0x80, 0xBF)
 
--- a character of one byte that `?` matches
+-- a character of a single byte that `?` matches
 abbrev pub is_ascii_wild : Options → ℕ → Bool
 is_ascii_wild o c = is_between (0x00, 0x7F) c && is_wild o c
 
--- the first byte of a character of three bytes, of which the second is any that continues one
+-- the first byte of a character of three bytes, whose second byte may be any continuing byte
 abbrev pub begins_three : ℕ → Bool
 begins_three c = not (c == 0xED) && is_between (0xE1, 0xEF) c
 
@@ -37,6 +37,6 @@ four_byte_rows =
     ∷ (is_between (0xF4, 0xF4) ∷ is_between (0x80, 0x8F) ∷ continues ∷ continues ∷ [])
     ∷ []
 
--- What `?` matches under `whole_character`, row by row. Two rows of the Unicode Standard are one, which saves a state.
+-- The matches of `?` under `whole_character`, row by row. Two rows of the Unicode Standard are merged, which saves a state.
 abbrev pub wild_rows : Options → List (List (ℕ → Bool))
 wild_rows o = (is_ascii_wild o ∷ []) ∷ (is_between (0xC2, 0xDF) ∷ continues ∷ []) ∷ (three_byte_rows ++ four_byte_rows)

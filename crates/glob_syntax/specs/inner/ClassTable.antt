@@ -5,7 +5,7 @@ use Rattle.glob_syntax.specs.declared.class.table.Membership.{Membership}
 use Rattle.glob_syntax.specs.declared.class.table.Membership.TheVariants.{Absent, OtherCase, Present}
 use Rattle.glob_syntax.specs.ClassBytes.{ranges_have}
 
--- how these bytes contain a byte, whatever the option `case_insensitive` is
+-- how these bytes contain a byte, with and without `case_insensitive`
 abbrev pub membership_in : (ℕ → Bool) → ℕ → Membership
 membership_in has byte =
     if has byte then Present
@@ -24,7 +24,7 @@ IsTableOf rs table = (length table ≡ 256) × ((byte : ℕ) → byte < 256 → 
 abbrev pub Shows : (ℕ → Bool) → List Membership → Type 0
 Shows has table = (byte : ℕ) → byte < 256 → slice_index_or table byte Absent ≡ membership_in has byte
 
--- these bytes were put into the table: whatever it showed, it shows them too
+-- these bytes were put into the table, in addition to its contents
 abbrev pub Puts : (ℕ → Bool) → List Membership → List Membership → Type 0
 Puts more old new = (has : ℕ → Bool) → Shows has old → Shows (λ b. has b || more b) new
 

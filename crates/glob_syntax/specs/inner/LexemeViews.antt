@@ -1,4 +1,4 @@
--- Lexemes as contracts see them, whatever memory holds them.
+-- Lexemes as contracts see them.
 use Rattle.std.specs.Prelude.{◌≡◌, ℕ, ◌++◌, List, map, None, Result, Ok, Err}
 use Rattle.std.specs.List.{position}
 use Rattle.glob_syntax.specs.declared.lexemes.lexeme.Lexeme.{Lexeme}
@@ -14,7 +14,7 @@ use Rattle.glob_syntax.specs.Views.{flats}
 abbrev pub NoCloser : List ℕ → Type 0
 NoCloser cs = position lexemes.is_closer cs ≡ None
 
--- a lexeme; that of a class by the ranges of its body
+-- a lexeme; a class by the ranges of its body
 abbrev pub lexeme_of : Lexeme → lexemes.Lexeme
 lexeme_of (held.Char escaped c) = lexemes.Char escaped c
 lexeme_of held.One = lexemes.One
@@ -25,16 +25,16 @@ lexeme_of held.Comma = lexemes.Comma
 lexeme_of held.Close = lexemes.Close
 lexeme_of (held.Bad f) = lexemes.Bad f
 
--- lexemes, one after another
+-- lexemes, in order
 abbrev pub lexemes_of : List Lexeme → List lexemes.Lexeme
 lexemes_of ms = map lexeme_of ms
 
--- the tokens of a piece were appended, and so many lexemes belong to it after its first one
+-- the tokens of a piece were appended, and this number of lexemes belong to it after its first
 pub record Adds (old new : List tokens.Token) (p : List Token × ℕ) (more : ℕ) : Type 0 where
   pub tokens : flats new ≡ flats old ++ map simple p.0
   pub takes : more ≡ p.1
 
--- a result with its value, if it has one, seen by a function
+-- a result with its value, if any, seen by a function
 abbrev pub map_ok : {X Y E : Type 0} → (X → Y) → Result X E → Result Y E
 map_ok f (Ok x) = Ok (f x)
 map_ok f (Err e) = Err e

@@ -1,9 +1,9 @@
--- Lexemes that have no error, from which tokens are made.
+-- Lexemes that have no error: the source of tokens.
 use Rattle.std.specs.Prelude.{◌≡◌, ℕ, List, Bool, true, false, Ok}
 use Rattle.glob_syntax.specs.Lexemes.{Lexeme, Open, Comma, Close, Bad}
 use Rattle.glob_syntax.specs.Nesting.{nested}
 
--- inside so many open groups, these lexemes have no error, and close all of the groups
+-- inside this number of open groups, these lexemes have no error, and close all of the groups
 pub record Nests (depth : ℕ) (ms : List Lexeme) : Type 0 where
   pub is : nested depth ms ≡ Ok ms
 

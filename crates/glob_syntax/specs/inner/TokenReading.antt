@@ -21,7 +21,7 @@ pub record ReadsTo (ts : List flat.Flat) (start : Bool) (ms : List Lexeme) (late
   pub same : flat.onto later (levels zero later_start left) ≡ flat.onto ts (levels zero start ms)
   pub follows : Follows later left
 
--- the piece that begins with a lexeme is read, which has so many of the lexemes after that one
+-- the piece that begins with a lexeme is read, with this number of lexemes after it
 abbrev pub ReadsPiece : List tokens.Token → Bool → held.Lexeme → List held.Lexeme → List tokens.Token → ℕ → Type 0
 ReadsPiece old start lexeme after new more =
     ReadsTo (flats old) start (lexeme_of lexeme ∷ lexemes_of after) (flats new) (starts_branch (lexeme_of lexeme)) (drop more (lexemes_of after))

@@ -3,11 +3,11 @@ use Rattle.std.specs.Prelude.{ℕ, ◌+◌, length, encode_utf8, if◌then◌els
 use Rattle.glob_syntax.specs.declared.options.Options.{Options}
 use Rattle.glob_syntax.specs.Token.{Token, Literal, Any, ZeroOrMore, RecursivePrefix, RecursiveSuffix, RecursiveZeroOrMore, Class, Group, Tokens, end, and_then, Branches, none, branch}
 
--- Seven states of a whole character read its second, third and fourth byte, eight its first, and one leads to these.
+-- Seven states of a whole character read its second, third and fourth byte, eight its first, and another leads to these.
 abbrev pub any_weight : Options → ℕ
 any_weight o = if o.whole_character then 16 else 1
 
--- A literal has a state for each of its bytes, and a group has one besides those of its branches.
+-- A literal has a state for each of its bytes, and a group has 1 and the states of its branches.
 abbrev mutual
   pub token_weight : Options → Token → ℕ
   token_weight o (Literal c) = length (encode_utf8 c)

@@ -4,7 +4,7 @@ ghost use Rattle.std.specs.Prelude.{◌≡◌, ◌==◌, ◌&&◌, nat_le};
 ghost use Rattle.glob_syntax.specs.ClassBytes.{range_has, is_one_of, is_from_last};
 ghost use Rattle.glob_syntax.specs.inner.ClassTable.{IsTableOf, Puts, other_case, with_other_case};
 
-/// How the ranges of a class contain a byte.
+/// The membership of a byte in the ranges of a class.
 #[derive(Clone, Copy)]
 pub enum Membership {
     /// Not at all.
@@ -55,7 +55,7 @@ fn put_all(table: &mut [Membership; 256], bytes: &[u8])
     }
 }
 
-/// Puts these bytes except the last one into the table, and those from the last one up to `upper`.
+/// Puts these bytes except the last into the table, and the bytes from the last up to `upper`.
 fn put_from_last(table: &mut [Membership; 256], bytes: &[u8], upper: u8)
     ensures { Puts (λ b. is_from_last b bytes.now upper) table.old table.new }
 {

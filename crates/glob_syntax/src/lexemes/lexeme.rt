@@ -16,7 +16,7 @@ pub enum Lexeme<'a> {
     Char { escaped: bool, c: char },
     /// `?`
     One,
-    /// A run of unescaped `*`, all that follow one another, by its length.
+    /// A run of unescaped `*`, as long as possible, by its length.
     Stars(usize),
     /// A closed class. The body does not include the negation.
     Class { negated: bool, body: &'a [char] },
@@ -37,7 +37,7 @@ fn first_closer(rest: &[char]) -> Option<usize>
     rest.iter().position(|c| *c == ']')
 }
 
-/// Returns how many members a class has, where `rest` begins with the first one; `None` if no `]` closes the class.
+/// Returns how many members a class has, where `rest` begins with the first; `None` if no `]` closes the class.
 fn members(rest: &[char]) -> Option<usize>
     ensures value { result ≡ members rest.now }
     ensures within { IfSome result (λ n. n < length rest.now) }
@@ -51,10 +51,10 @@ fn members(rest: &[char]) -> Option<usize>
     }
 }
 
-/// Returns the lexeme at a `[` that `skipped` characters of negation and then `rest` follow, and how many characters belong to
-/// it after the `[`.
+/// Returns the lexeme at a `[`, and the number of its characters after the `[`. After the `[` come `skipped` characters of
+/// negation, and then `rest`.
 ///
-/// `closable` becomes false once no `]` closes a `[`. Then none closes a later one, so this never searches again.
+/// `closable` becomes false once no `]` closes a `[`. Then none closes a later `[`, so this never searches again.
 fn class_at<'a>(
     options: Options,
     closable: &mut bool,

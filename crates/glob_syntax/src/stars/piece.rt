@@ -24,8 +24,8 @@ pub struct Position<'a, 'b> {
     pub after: &'a [Lexeme<'b>],
 }
 
-/// Pushes the tokens of a piece that begins with a run of `n` stars, followed by `after`. Returns how many lexemes belong to
-/// the piece after its first one.
+/// Pushes the tokens of a piece that begins with a run of `n` stars, followed by `after`. Returns how many lexemes belong to the
+/// piece after its first.
 fn push_run(
     out: &mut Vec<Token>,
     start: bool,
@@ -54,7 +54,7 @@ fn push_run(
     }
 }
 
-/// Pushes the only token of a piece. Returns `more`, how many lexemes belong to the piece after its first one.
+/// Pushes the only token of a piece. Returns `more`, the number of lexemes in the piece after its first.
 fn push_token(out: &mut Vec<Token>, token: Token, more: usize) -> Result<usize, AllocError>
     ensures { IfOk result
         (λ n. (flats out.new.items ≡ flats out.old.items ++ flat_of token ∷ []) × (n ≡ more)) }
@@ -74,8 +74,8 @@ fn push_stars(out: &mut Vec<Token>, n: usize) -> Result<(), AllocError>
     Ok(())
 }
 
-/// Pushes the tokens of a piece that begins with a `/`, followed by `after`. Returns how many lexemes belong to the piece
-/// after its first one.
+/// Pushes the tokens of a piece that begins with a `/`, followed by `after`. Returns how many lexemes belong to the piece after
+/// its first.
 fn push_slash(out: &mut Vec<Token>, after: &[Lexeme<'_>]) -> Result<usize, AllocError>
     ensures adds { IfOk result
         (λ more. Adds out.old.items out.new.items (slash_piece (lexemes_of after.now)) more) }
@@ -91,8 +91,8 @@ fn push_slash(out: &mut Vec<Token>, after: &[Lexeme<'_>]) -> Result<usize, Alloc
     }
 }
 
-/// Pushes the tokens of the piece that begins at this position. Returns how many lexemes belong to the piece after its first
-/// one. A brace or a comma has no tokens.
+/// Pushes the tokens of the piece that begins at this position. Returns how many lexemes belong to the piece after its first. A
+/// brace or a comma has no tokens.
 #[tactic(auto, unfolding(crate::specs::Stars::piece))]
 pub fn push_piece(
     alloc: Global,

@@ -7,8 +7,6 @@ use crate::token::Token;
 use std::alloc::{AllocError, Global};
 
 /// Returns equal tokens with memory of their own, in time and memory linear in the tokens.
-///
-/// Returns an error if memory runs out.
 pub fn copy_of(alloc: Global, tokens: &[Token]) -> Result<Vec<Token>, AllocError>
     ensures { IfOk result (λ v. flats v.items ≡ flats tokens.now) }
 {

@@ -1,6 +1,6 @@
--- `==` of globs, errors and kinds of errors as tests, and that those of errors are equivalences.
+-- `==` of globs, errors and kinds of errors as tests, and that the tests of errors are equivalences.
 --
--- The contract of each `==` says what its test decides: that two globs are one `GlobValue`, and `SameError` and the like.
+-- The contract of each `==` gives the meaning of its test: that two globs are the same `GlobValue`, and `SameError` and the like.
 use Rattle.std.specs.Prelude.{ℕ, Bool, ◌&&◌, List, [], Option, Some, None, string_bytes, nat_eq}
 use Rattle.std.specs.Bool.{beq}
 use Rattle.std.specs.Str.{bytes_eq}
@@ -63,14 +63,14 @@ abbrev pub text_of : ErrorKind → List ℕ
 text_of (kinds.Regex text) = string_bytes text
 text_of _ = []
 
--- `==` of kinds: one variant, with the same characters and the same text
+-- `==` of kinds: the same variant, with the same characters and the same text
 abbrev pub same_kind : ErrorKind → ErrorKind → Bool
 same_kind = eq_of_both (on variant nat_eq) (eq_of_both (on start_of nat_eq) (eq_of_both (on end_of nat_eq) (on text_of bytes_eq)))
 
 pub same_kind_laws : IsEquivalence same_kind
 same_kind_laws = and_equiv (on_equiv variant nat_eq_equiv) (and_equiv (on_equiv start_of nat_eq_equiv) (and_equiv (on_equiv end_of nat_eq_equiv) (on_equiv text_of nat_list_eq_equiv)))
 
--- `==` of errors: one text or none, and equal kinds
+-- `==` of errors: the same text or none, and equal kinds
 abbrev pub same_error : ErrorValue → ErrorValue → Bool
 same_error = eq_of_both (on (λ e. e.glob) (option_eq bytes_eq)) (on (λ e. e.kind) same_kind)
 
@@ -90,14 +90,14 @@ abbrev pub error_in : ValueErrorKind → Option ErrorValue
 error_in (causes.Glob e) = Some e
 error_in _ = None
 
--- `==` of kinds of errors of values: one variant, with equal errors
+-- `==` of kinds of errors of values: the same variant, with equal errors
 abbrev pub same_value_kind : ValueErrorKind → ValueErrorKind → Bool
 same_value_kind = eq_of_both (on value_variant nat_eq) (on error_in (option_eq same_error))
 
 pub same_value_kind_laws : IsEquivalence same_value_kind
 same_value_kind_laws = and_equiv (on_equiv value_variant nat_eq_equiv) (on_equiv error_in (options_equiv same_error_laws))
 
--- `==` of errors of values: one index or none, and equal kinds
+-- `==` of errors of values: the same index or none, and equal kinds
 abbrev pub same_value_error : ValueErrorValue → ValueErrorValue → Bool
 same_value_error = eq_of_both (on (λ e. e.index) (option_eq nat_eq)) (on (λ e. e.kind) same_value_kind)
 

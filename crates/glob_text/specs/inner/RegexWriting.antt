@@ -19,13 +19,13 @@ abbrev pub opener : Bool → List ℕ
 opener true = codes "(?:"
 opener false = codes "|"
 
--- the text after the last branch, if one was written
+-- the text after the last branch, if any was written
 abbrev pub closer : Bool → List ℕ
 closer true = []
 closer false = codes ")"
 
--- An open group: the text before the branch that is being written, whether no branch of the group has been written, and
--- whether the branch around the group is kept by what it has before the group.
+-- An open group: the text before its current branch, and whether no branch of the group has been written. It also says whether
+-- the tokens before the group keep the branch around it.
 pub record Place : Type 0 where
   pub before : List ℕ
   pub first : Bool
@@ -43,8 +43,8 @@ abbrev pub chosen : Bool → List ℕ → List ℕ → List ℕ
 chosen true text before = text
 chosen false text before = before
 
--- The whole text, where these levels are still to be written after this text, inside these groups, the innermost first.
--- `kept` says that what was written of the branch keeps it.
+-- The whole text, where these levels still follow this text, inside these groups, the innermost first. `kept` says that the
+-- branch is kept by its written tokens.
 abbrev pub finish : Options → List ℕ → Bool → List Place → List Branches → List ℕ
 finish o text kept [] [] = text
 finish o text kept [] (bs ∷ more) = text ++ tokens_text o (first_branch bs)
@@ -61,7 +61,7 @@ place_of text g = place (take g.len text) g.first g.outer_kept
 abbrev pub places_of : List ℕ → List OpenGroup → List Place
 places_of text gs = map (place_of text) gs
 
--- each position is below n and below those of the groups inside it, and the byte there is an ASCII character
+-- each position is below n and below the positions of the groups inside it, and the byte there is an ASCII character
 abbrev pub AreCuts : List ℕ → ℕ → List OpenGroup → Type 0
 AreCuts text n [] = Unit {0}
 AreCuts text n (g ∷ gs) = (g.len < n) × (slice_index text g.len < 128) × AreCuts text g.len gs

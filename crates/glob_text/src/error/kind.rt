@@ -36,7 +36,7 @@ pub enum ErrorKind {
     UnopenedAlternates,
     /// A `{` has no closing `}`.
     UnclosedAlternates,
-    /// The last character is a `\` that would escape the next one.
+    /// The last character is a `\` that would escape a next character.
     DanglingEscape,
     /// Memory ran out. It is the only kind that a call on a glob returns.
     OutOfMemory,
@@ -80,7 +80,7 @@ impl ErrorKind {
         }
     }
 
-    /// Returns an equal kind, or an error if memory runs out. Only the text of [`ErrorKind::Regex`] needs memory.
+    /// Returns an equal kind. Only the text of [`ErrorKind::Regex`] needs memory.
     pub fn clone(&self) -> Result<ErrorKind, Error>
         ensures ok { IfOk result (λ k. SameKind k self.now) }
         ensures equal { IfOk result (λ k. IsTrue (⟦<ErrorKind as PartialEq>⟧.eq k self.now)) }

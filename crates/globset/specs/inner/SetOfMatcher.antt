@@ -1,4 +1,4 @@
--- The value of a set, by what it matches with. No contract cites this.
+-- The value of a set, by its compiled globs. No contract cites this.
 use Rattle.std.specs.Prelude.{◌≡◌, ◌≢◌, ◌≤◌, ℕ, [], Option, None, Some, IfSome, length, ⊤}
 use Rattle.std.specs.Arc.{arc_value}
 use Rattle.std.specs.declared.sync.Arc.{Arc}
@@ -18,7 +18,7 @@ abbrev pub HasGlobs : {Z : Type 0} → Option (Arc SetMatcherValue Z) → Type 0
 HasGlobs None = ⊤
 HasGlobs (Some matcher) = set_globs (arc_value matcher).set ≢ []
 
--- The memory is enough for each path, and the rows are those of the matcher, which is the set's.
+-- The memory is enough for each path, and the rows belong to the matcher, which is the set's.
 pub record IsSearcherOf {Z : Type 0} (set : SetValue) (matcher : Option (Arc SetMatcherValue Z)) (scratch : ScratchValue) (caches : Caches) (capacity : ℕ) : Type 0 where
   pub same : set_of matcher ≡ set
   pub has : HasGlobs matcher

@@ -16,7 +16,7 @@ use std::alloc::Global;
 impl GlobSet {
     /// Returns the indexes, ascending, of the globs that match the path. Excluded globs are left out.
     ///
-    /// Returns an error only if memory runs out. It needs no memory if the set has no globs.
+    /// It allocates nothing if the set has no globs.
     pub fn matches<P: AsPath>(&self, alloc: Global, path: P) -> Result<Vec<usize>, Error>
         ensures ok { IfOk result
             (λ v. v.items ≡ matching_indexes (set_globs self.now) (P.text path)) }
@@ -31,7 +31,7 @@ impl GlobSet {
 
     /// Returns the indexes, ascending, of the globs that match the candidate's path. Excluded globs are left out.
     ///
-    /// Returns an error only if memory runs out. It needs no memory if the set has no globs.
+    /// It allocates nothing if the set has no globs.
     pub fn matches_candidate(
         &self,
         alloc: Global,
@@ -60,7 +60,7 @@ impl GlobSet {
     /// assert!(rt; indexes.is_empty());
     /// ```
     ///
-    /// Returns an error only if memory runs out; the vector is then empty. It needs no memory if the set has no globs.
+    /// After an error the vector is empty. It allocates nothing if the set has no globs.
     pub fn matches_into<P: AsPath>(&self, path: P, into: &mut Vec<usize>) -> Result<(), Error>
         ensures ok { OnOk result
             (into.new.items ≡ matching_indexes (set_globs self.now) (P.text path)) }
@@ -74,7 +74,7 @@ impl GlobSet {
     /// Replaces the vector's items by the indexes that [`GlobSet::matches_candidate`] returns. The vector's capacity is
     /// reused.
     ///
-    /// Returns an error only if memory runs out; the vector is then empty. It needs no memory if the set has no globs.
+    /// After an error the vector is empty. It allocates nothing if the set has no globs.
     pub fn matches_candidate_into(
         &self,
         path: &Candidate<'_>,
@@ -91,13 +91,13 @@ impl GlobSet {
 
     /// Like [`GlobSet::matches_candidate_into`], but also counts the visits.
     ///
-    /// It adds at most `4 + 2 * (path bytes + 1)`, and `path bytes + 1` times `4 * glob bytes + 4` for each glob that needs an
-    /// automaton for the path (`16 * glob bytes + 4` under `whole_character`), also if memory runs out; and none if the set has
-    /// no globs. It looks up the path and its parts in four tables and two tries, and runs at most three automata, each once.
-    /// The call takes a bit of memory for each glob above the first 64, and two for each state of an automaton that is stepped.
-    /// The vector grows for the indexes.
+    /// It adds at most `4 + 2 * (path bytes + 1)`. Each glob that needs an automaton for the path adds `path bytes + 1` times `4
+    /// * glob bytes + 4` (`16 * glob bytes + 4` under `whole_character`). The bound also holds after an error; a set without
+    /// globs adds none. The call looks up the path and its parts in four tables and two tries, and runs at most three automata,
+    /// each once. It allocates a bit of memory for each glob above the first 64, and two for each state of an automaton that is
+    /// stepped. The vector grows for the indexes.
     ///
-    /// Returns an error only if memory runs out; the vector is then empty. It needs no memory if the set has no globs.
+    /// After an error the vector is empty. It allocates nothing if the set has no globs.
     pub fn matches_visits(
         &self,
         path: &Candidate<'_>,
@@ -131,8 +131,8 @@ impl GlobSet {
     /// The scratch has to fit the set. It then fits each set that it fitted before, after an error too. The bound on the visits
     /// is the same.
     ///
-    /// Returns an error only if memory runs out; the vector is then empty. It needs no memory if the vector has a capacity
-    /// of [`GlobSet::len`]. The capacity never shrinks, so that later calls need none either.
+    /// After an error the vector is empty. It allocates nothing if the vector has a capacity of [`GlobSet::len`]. The capacity
+    /// never shrinks, so later calls do not allocate either.
     pub fn matches_into_with(
         &self,
         path: &Candidate<'_>,
@@ -163,11 +163,11 @@ impl GlobSet {
     /// Returns whether some glob that is not excluded matches the path: whether [`GlobSet::matches`] would return an
     /// index.
     ///
-    /// To match several sets against one path, or against bytes that are not UTF-8, create a [`Candidate`] and call
+    /// To match several sets against a path, or against bytes that are not UTF-8, create a [`Candidate`] and call
     /// [`GlobSet::is_match_candidate`].
     ///
-    /// Returns an error only if memory runs out. It needs no memory if no glob needs an automaton for
-    /// the path: if each of them is direct, or requires an extension that the path lacks.
+    /// It allocates nothing if no glob needs an automaton for the path: if each of them is direct, or requires an extension that
+    /// the path lacks.
     pub fn is_match<P: AsPath>(&self, path: P) -> Result<bool, Error>
         ensures ok { IfOk result
             (λ yes. IsTrue yes ↔ (matching_indexes (set_globs self.now) (P.text path) ≢ [])) }
@@ -181,8 +181,8 @@ impl GlobSet {
 
     /// Returns whether some glob that is not excluded matches the candidate's path, as [`GlobSet::is_match`] does.
     ///
-    /// Returns an error only if memory runs out. It needs no memory if no glob needs an automaton for
-    /// the path: if each of them is direct, or requires an extension that the path lacks.
+    /// It allocates nothing if no glob needs an automaton for the path: if each of them is direct, or requires an extension that
+    /// the path lacks.
     pub fn is_match_candidate(&self, path: &Candidate<'_>) -> Result<bool, Error>
         ensures ok { IfOk result
             (λ yes. IsTrue yes ↔ (matching_indexes (set_globs self.now) path.now ≢ [])) }
@@ -196,13 +196,13 @@ impl GlobSet {
 
     /// Like [`GlobSet::is_match_candidate`], but also counts the visits.
     ///
-    /// It adds at most `4 + 2 * (path bytes + 1)`, and `path bytes + 1` times `4 * glob bytes + 4` for each glob that needs an
-    /// automaton for the path (`16 * glob bytes + 4` under `whole_character`), also if memory runs out; and none if the set has
-    /// no globs. It looks up the path and its parts in four tables and two tries, and runs at most three automata, each once.
-    /// Those that are stepped take two bits of memory for each state.
+    /// It adds at most `4 + 2 * (path bytes + 1)`. Each glob that needs an automaton for the path adds `path bytes + 1` times `4
+    /// * glob bytes + 4` (`16 * glob bytes + 4` under `whole_character`). The bound also holds after an error; a set without
+    /// globs adds none. The call looks up the path and its parts in four tables and two tries, and runs at most three automata,
+    /// each once. Those that are stepped take two bits of memory for each state.
     ///
-    /// Returns an error only if memory runs out. It needs no memory if no glob needs an automaton for the path: if
-    /// each of them is direct, or requires an extension that the path lacks.
+    /// It allocates nothing if no glob needs an automaton for the path: if each of them is direct, or requires an extension that
+    /// the path lacks.
     pub fn is_match_visits(&self, path: &Candidate<'_>, visits: &mut Visits) -> Result<bool, Error>
         ensures ok { IfOk result
             (λ yes. IsTrue yes ↔ (matching_indexes (set_globs self.now) path.now ≢ [])) }
@@ -251,8 +251,8 @@ impl GlobSet {
     /// Returns whether every glob matches the path and none is excluded: whether [`GlobSet::matches`] would return every
     /// index below [`GlobSet::len`]. It is true if the set has no globs.
     ///
-    /// Returns an error only if memory runs out. It needs no memory if no glob needs an automaton for
-    /// the path: if each of them is direct, or requires an extension that the path lacks.
+    /// It allocates nothing if no glob needs an automaton for the path: if each of them is direct, or requires an extension that
+    /// the path lacks.
     pub fn matches_all<P: AsPath>(&self, path: P) -> Result<bool, Error>
         ensures ok { IfOk result
             (λ yes. IsTrue yes
@@ -268,8 +268,8 @@ impl GlobSet {
 
     /// Returns whether every glob matches the candidate's path and none is excluded, as [`GlobSet::matches_all`] does.
     ///
-    /// Returns an error only if memory runs out. It needs no memory if no glob needs an automaton for
-    /// the path: if each of them is direct, or requires an extension that the path lacks.
+    /// It allocates nothing if no glob needs an automaton for the path: if each of them is direct, or requires an extension that
+    /// the path lacks.
     pub fn matches_all_candidate(&self, path: &Candidate<'_>) -> Result<bool, Error>
         ensures ok { IfOk result
             (λ yes. IsTrue yes
@@ -285,14 +285,14 @@ impl GlobSet {
 
     /// Like [`GlobSet::matches_all_candidate`], but also counts the visits.
     ///
-    /// It adds at most `4 + 2 * (path bytes + 1)`, and `path bytes + 1` times `4 * glob bytes + 4` for each glob that needs an
-    /// automaton for the path (`16 * glob bytes + 4` under `whole_character`), also if memory runs out; and none if the set has
-    /// no globs. It looks up the path and its parts in four tables and two tries, and runs at most three automata, each once.
-    /// If one of these has states, the call takes a bit of memory for each glob above the first 64, and two for each state of one
-    /// that is stepped.
+    /// It adds at most `4 + 2 * (path bytes + 1)`. Each glob that needs an automaton for the path adds `path bytes + 1` times `4
+    /// * glob bytes + 4` (`16 * glob bytes + 4` under `whole_character`). The bound also holds after an error; a set without
+    /// globs adds none. The call looks up the path and its parts in four tables and two tries, and runs at most three automata,
+    /// each once. If any of these has states, it allocates a bit for each glob above the first 64. For an automaton that is
+    /// stepped it allocates two bits for each state.
     ///
-    /// Returns an error only if memory runs out. It needs no memory if no glob needs an automaton for the path: if
-    /// each of them is direct, or requires an extension that the path lacks.
+    /// It allocates nothing if no glob needs an automaton for the path: if each of them is direct, or requires an extension that
+    /// the path lacks.
     pub fn matches_all_visits(
         &self,
         path: &Candidate<'_>,
@@ -356,7 +356,7 @@ impl GlobSet {
     /// For several sets, or for bytes that are not UTF-8, create a [`Candidate`] and call [`GlobSet::can_match_below_candidate`].
     /// A walk makes a [`Searcher`](crate::Searcher) once, whose calls neither allocate nor fail.
     ///
-    /// Returns an error only if memory runs out. It needs no memory if each glob is direct.
+    /// It allocates nothing if each glob is direct.
     ///
     /// ```rust
     /// use globset::{Glob, GlobSet};
@@ -379,7 +379,7 @@ impl GlobSet {
     /// Returns whether some glob that is not excluded matches some path below the candidate's path, as
     /// [`GlobSet::can_match_below`] does.
     ///
-    /// Returns an error only if memory runs out. It needs no memory if each glob is direct.
+    /// It allocates nothing if each glob is direct.
     pub fn can_match_below_candidate(&self, folder: &Candidate<'_>) -> Result<bool, Error>
         ensures ok { IfOk result
             (λ yes. IsTrue yes ↔ MatchesBelow (set_globs self.now) folder.now) }
@@ -393,11 +393,11 @@ impl GlobSet {
 
     /// Like [`GlobSet::can_match_below_candidate`], but also counts the visits.
     ///
-    /// It adds at most `4 + 2 * (folder bytes + 2)`, and `folder bytes + 2` times `4 * glob bytes + 4` for each glob that is not
-    /// direct (`16 * glob bytes + 4` under `whole_character`), also if memory runs out; and none if the set has no globs. The
-    /// automata of all extensions may be run, each once. Those that are stepped take two bits of memory for each state.
+    /// It adds at most `4 + 2 * (folder bytes + 2)`. Each glob that is not direct adds `folder bytes + 2` times `4 * glob bytes +
+    /// 4` (`16 * glob bytes + 4` under `whole_character`). The bound also holds after an error; a set without globs adds none.
+    /// The automata of all extensions may be run, each once. Those that are stepped take two bits of memory for each state.
     ///
-    /// Returns an error only if memory runs out. It needs no memory if each glob is direct.
+    /// It allocates nothing if each glob is direct.
     pub fn can_match_below_visits(
         &self,
         folder: &Candidate<'_>,

@@ -1,4 +1,4 @@
--- By what a matcher decides: the key or the automaton of one glob.
+-- How a matcher decides: the key or the automaton of a glob.
 use Rattle.std.specs.Prelude.{◌≡◌, ◌≤◌, ℕ, [], ◌∷◌}
 use Rattle.std.specs.Arc.{arc_value}
 use Rattle.byte_nfa.specs.Steps.{NfaValue}
@@ -17,7 +17,7 @@ pub record IsAutomatonOf (g : GlobValue) (m : NfaValue) : Type 0 where
   pub tokens : IsFor m (indexed g.options (tokens_of_glob g) 0 ∷ [])
   pub reads : max_reads m ≤ cost g
 
--- A key decides which paths the glob matches. An automaton is that of the glob.
+-- A key decides which paths the glob matches. An automaton belongs to the glob.
 abbrev pub IsStrategyOfMatcher : GlobValue → Strategy → Type 0
 IsStrategyOfMatcher g (Key key) = IsDecidedBy g.options (tokens_of_glob g) (key_seen key)
 IsStrategyOfMatcher g (Automaton m) = IsAutomatonOf g (arc_value m)
@@ -27,7 +27,7 @@ abbrev pub form_states : Strategy → ℕ
 form_states (Key key) = 0
 form_states (Automaton m) = size (arc_value m)
 
--- a cache of rows is one of the automaton; a key has none
+-- a cache of rows belongs to the automaton; a key has none
 abbrev pub IsCacheOf : Strategy → NfaValue → Type 0
 IsCacheOf (Key key) cache = ⊥
 IsCacheOf (Automaton m) cache = cache ≡ arc_value m

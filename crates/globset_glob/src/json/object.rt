@@ -43,7 +43,7 @@ fn member<'v>(members: &'v Map<String, Value>, key: &str) -> Option<&'v Value>
     members.get(key)
 }
 
-/// Returns whether some key is neither `glob` nor that of an option.
+/// Returns whether some key is neither `glob` nor the name of an option.
 #[tactic(auto, using(crate::proofs::lemmas::Members::pass_known, crate::proofs::lemmas::Members::find_unknown))]
 fn has_unknown_key(members: &Map<String, Value>) -> bool
     ensures { result ≡ has_unknown_key (members_view members.now.entries) }
@@ -72,7 +72,7 @@ fn is_known_key(key: &str) -> bool
     )
 }
 
-/// Returns the options of these members, or `None` if one of them is neither true nor false.
+/// Returns the options of these members, or `None` if any of them is neither true nor false.
 fn read_options(members: &Map<String, Value>) -> Option<Options>
     ensures options { IfSome result
         (λ options. options ≡ options_in (members_view members.now.entries)) }
@@ -105,7 +105,7 @@ fn read_option(members: &Map<String, Value>, key: &str, default: bool) -> Option
     }
 }
 
-/// Returns the value of a glob with this text and these options. Returns an error if memory runs out.
+/// Returns the value of a glob with this text and these options.
 #[tactic(auto, using(crate::proofs::lemmas::Values::text_of_defaults, crate::proofs::lemmas::Values::object_of_others))]
 pub fn value_of(alloc: Global, text: &str, options: Options) -> Result<Value, AllocError>
     ensures { IfOk result

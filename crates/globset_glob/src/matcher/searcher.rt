@@ -15,8 +15,8 @@ use lazy_dfa::{Cache, StateSets};
 use std::alloc::Global;
 use std::marker::Model;
 
-/// A [`GlobMatcher`] with all the memory that one thread needs to match paths. [`MatcherSearcher::new`] allocates it: no other
-/// call allocates, and none can fail.
+/// A [`GlobMatcher`] with all the memory that a thread needs to match paths. [`MatcherSearcher::new`] allocates it: no other call
+/// allocates, and none can fail.
 ///
 /// Searchers of a matcher share its automaton. If this has rows, each searcher has a cache of its own for them, and uses no cache
 /// of the matcher. A program with several threads makes a searcher for each thread.
@@ -34,7 +34,7 @@ use std::marker::Model;
 #[derive(Drop)]
 pub struct MatcherSearcher {
     matcher: GlobMatcher,
-    /// That of the matcher, once more: contracts see a matcher as its glob, and the cache is of an automaton.
+    /// The matcher's strategy, copied: contracts see a matcher as its glob, and the cache is of an automaton.
     strategy: Strategy,
     sets: StateSets,
     /// `None` if a key decides, or the automaton has no rows.
@@ -56,13 +56,13 @@ impl Model for MatcherSearcher {
 }
 
 impl MatcherSearcher {
-    /// Returns a searcher that matches as the matcher does. It copies the matcher's glob, shares its automaton, and takes two
-    /// bits of memory for each state of this: at most 8 bits for each byte of the glob's text and 8 more, or four times as much
-    /// under `whole_character`. For rows that it keeps from one path to the next it takes a quarter of the matcher's limit
-    /// ([`Glob::compile_matcher_with_limit`](crate::Glob::compile_matcher_with_limit)), so 4 MiB by default, and at most 8 MiB,
-    /// and more if the automaton has so many states that one row does not fit.
+    /// Returns a searcher that matches as the matcher does. It copies the matcher's glob, shares its automaton, and allocates two
+    /// bits for each state of this: at most 8 bits for each byte of the glob's text and 8 more, or four times as much under
+    /// `whole_character`. It also allocates a cache of rows: a quarter of the matcher's limit
+    /// ([`Glob::compile_matcher_with_limit`](crate::Glob::compile_matcher_with_limit)), so 4 MiB by default, and at most 8 MiB.
+    /// The cache is larger only if the automaton has too many states for a row to fit.
     ///
-    /// Returns an error only if memory runs out or 2^63 matchers share the automaton.
+    /// Fails only if memory runs out or 2^63 matchers share the automaton.
     pub fn new(alloc: Global, matcher: &GlobMatcher) -> Result<MatcherSearcher, Error>
         ensures ok { IfOk result (λ s. s ≡ matcher.now) }
         ensures err { IsOkUnless result out_of_memory }
@@ -86,8 +86,8 @@ impl MatcherSearcher {
         &self.matcher
     }
 
-    /// Returns how many bytes of memory the rows take that it may keep from one path to the next, or 0 if it has none. Beside
-    /// these it takes a few bits for each state of the automaton.
+    /// Returns the size of its cache of rows in bytes, or 0 if it has none. It also has a few bits for each state of the
+    /// automaton.
     ///
     /// A searcher takes its memory when it is made, and no more later.
     pub fn bytes(&self) -> usize {
@@ -106,8 +106,8 @@ impl MatcherSearcher {
         self.is_match_visits(path, &mut visits)
     }
 
-    /// Does what [`is_match`](MatcherSearcher::is_match) does, and adds its visits to `visits`: at most as many as
-    /// [`GlobMatcher::is_match_visits`] may.
+    /// Does what [`is_match`](MatcherSearcher::is_match) does, and adds its visits to `visits`: with the bound of
+    /// [`GlobMatcher::is_match_visits`].
     pub fn is_match_visits(&mut self, path: &Candidate<'_>, visits: &mut Visits) -> bool
         ensures matches { result ≡ glob_matches self.old path.now }
         ensures kept { self.new ≡ self.old }
@@ -137,8 +137,8 @@ impl MatcherSearcher {
         self.can_match_below_visits(folder, &mut visits)
     }
 
-    /// Does what [`can_match_below`](MatcherSearcher::can_match_below) does, and adds its visits to `visits`: at most as many
-    /// as [`GlobMatcher::can_match_below_visits`] may.
+    /// Does what [`can_match_below`](MatcherSearcher::can_match_below) does, and adds its visits to `visits`: with the bound of
+    /// [`GlobMatcher::can_match_below_visits`].
     pub fn can_match_below_visits(&mut self, folder: &Candidate<'_>, visits: &mut Visits) -> bool
         ensures some { IsTrue result ↔ GlobMatchesBelow self.old folder.now }
         ensures kept { self.new ≡ self.old }

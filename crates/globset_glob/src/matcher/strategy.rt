@@ -1,4 +1,4 @@
-//! By what a matcher decides.
+//! How a matcher decides.
 
 ghost use Rattle.std.specs.Prelude.{◌≡◌, ◌+◌, ◌≤◌, ◌↔◌, IfOk, IfSome, IsOk, IsTrue};
 ghost use Rattle.lazy_dfa.specs.Sets.{sets_capacity};
@@ -16,7 +16,7 @@ use lazy_dfa::{Cache, StateSets};
 use std::alloc::{AllocError, Global};
 use std::sync::Arc;
 
-/// By what a matcher decides whether its glob matches a path.
+/// How a matcher decides whether its glob matches a path.
 #[derive(Drop)]
 pub enum Strategy {
     /// A key, which is compared with the path or a part of it.
@@ -26,8 +26,8 @@ pub enum Strategy {
 }
 
 impl Strategy {
-    /// Returns the key of a glob if one decides it, and otherwise an automaton, of which rows of at most `dfa_size_limit` bytes
-    /// are kept between calls. Returns an error if memory runs out.
+    /// Returns the key of a glob if a key decides it, and otherwise an automaton, whose caches take at most `dfa_size_limit`
+    /// bytes.
     pub fn of(glob: &Glob, dfa_size_limit: usize) -> Result<Strategy, AllocError>
         ensures { IfOk result (IsStrategyOfMatcher glob.now) }
     {
@@ -57,7 +57,7 @@ impl Strategy {
         }
     }
 
-    /// Returns sets with room for the states of an automaton. Returns an error if memory runs out.
+    /// Returns sets with room for the states of an automaton.
     pub fn new_sets(&self, alloc: Global) -> Result<StateSets, AllocError>
         ensures { IfOk result (λ sets. form_states self.now ≤ sets_capacity sets) }
     {
@@ -80,7 +80,7 @@ impl Strategy {
     }
 
     /// Returns whether the glob matches a path. An automaton runs by the rows of the cache, or, without one, as
-    /// [`Compiled::is_match`] does. Returns an error if memory runs out, and none if a key decides or the sets have room.
+    /// [`Compiled::is_match`] does. It allocates nothing if a key decides or the sets have room.
     pub fn is_match(
         &self,
         path: &Candidate<'_>,
@@ -111,8 +111,8 @@ impl Strategy {
         }
     }
 
-    /// Returns whether the glob matches some path below a folder. It runs as [`Strategy::is_match`] does. Returns an error if
-    /// memory runs out, and none if a key decides or the sets have room.
+    /// Returns whether the glob matches some path below a folder. It runs as [`Strategy::is_match`] does. It allocates nothing if
+    /// a key decides or the sets have room.
     pub fn can_match_below(
         &self,
         folder: &Candidate<'_>,
@@ -142,8 +142,7 @@ impl Strategy {
         }
     }
 
-    /// Returns the strategy of an equal glob: the same automaton, which is shared, or the key once more. Returns an error if
-    /// memory runs out.
+    /// Returns the strategy of an equal glob: the same automaton, which is shared, or the key once more.
     pub fn copy_for(&self, glob: &Glob) -> Result<Strategy, AllocError>
         requires { IsStrategyOfMatcher glob.now self.now }
         ensures { IfOk result (IsStrategyOfMatcher glob.now) }
@@ -155,8 +154,7 @@ impl Strategy {
     }
 }
 
-/// Returns the automaton of a glob, whose tokens have the index 0. Its rows take at most `dfa_size_limit` bytes between calls. Returns
-/// an error if memory runs out.
+/// Returns the automaton of a glob, whose tokens have the index 0. Its rows take at most `dfa_size_limit` bytes between calls.
 fn automaton_of(glob: &Glob, dfa_size_limit: usize) -> Result<Compiled, AllocError>
     ensures { IfOk result (λ a. IsAutomatonOf glob.now a) }
 {

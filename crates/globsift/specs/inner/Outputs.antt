@@ -1,4 +1,4 @@
--- Outputs: what they are made with, and what they do with lines and bytes. Only private functions cite this.
+-- Outputs: how they are made, and their effect on lines and bytes. Only private functions cite this.
 use Rattle.std.specs.Prelude.{◌≡◌, ℕ, List, ◌++◌, Bool, true, false, ◌||◌, Option, Result, MatchResult}
 use Rattle.std.specs.Io.KnownBytes.{Appends}
 use Rattle.globset.specs.Answer.{matching_indexes}
@@ -17,19 +17,19 @@ AreEquivalent old new = (new.searcher.set ≡ old.searcher.set) × (new.numbered
 abbrev pub globs_of : Output → List GlobValue
 globs_of output = set_globs output.searcher.set
 
--- what is pending, and then the output for a line
+-- the pending output, and then the output for a line
 abbrev pub with_line : Output → List ℕ → List ℕ
 with_line output line = output.pending.items ++ line_output (globs_of output) output.numbered line
 
--- what is pending, and then the output for the lines of these bytes
+-- the pending output, and then the output for the lines of these bytes
 abbrev pub with_bytes : Output → List ℕ → List ℕ
 with_bytes output bytes = output.pending.items ++ sifted (globs_of output) output.numbered bytes
 
--- some line is output, if one was before or the set matches this line
+-- some line is output, if any was before or the set matches this line
 abbrev pub any_with_line : Output → List ℕ → Bool
 any_with_line output line = output.any_written || is_matched (globs_of output) line
 
--- some line is output, if one was before or the set matches some line of these bytes
+-- some line is output, if any was before or the set matches some line of these bytes
 abbrev pub any_with_bytes : Output → List ℕ → Bool
 any_with_bytes output bytes = output.any_written || has_match (globs_of output) bytes
 
@@ -46,13 +46,13 @@ HandlesLine old new held held' line result = MatchResult result
     (λ _. WritesAllBut held held' new.pending.items (with_line old line) × (new.any_written ≡ any_with_line old line))
     (FailsMidway held held' (with_line old line))
 
--- So were all whole lines of these bytes, of which the result or the sifter has the rest.
+-- So were all whole lines of these bytes, whose rest is in the result or the sifter.
 abbrev pub HandlesBytes : {X : Type 0} → Output → Output → (held held' : Option (List ℕ)) → List ℕ → (X → List ℕ) → Result X SiftFault → Type 0
 HandlesBytes old new held held' bytes rest result = MatchResult result
     (λ x. Handles (globs_of old) old.numbered bytes (rest x) held held' old.pending.items new.pending.items old.any_written new.any_written)
     (FailsMidway held held' (with_bytes old bytes))
 
--- So were all lines of these bytes, the last of which may have no LF.
+-- So were all lines of these bytes; the last may have no LF.
 abbrev pub HandlesAll : {X : Type 0} → Output → Output → (held held' : Option (List ℕ)) → List ℕ → Result X SiftFault → Type 0
 HandlesAll old new held held' bytes result = MatchResult result
     (λ _. WritesAllBut held held' new.pending.items (with_bytes old bytes) × (new.any_written ≡ any_with_bytes old bytes))

@@ -1,5 +1,5 @@
--- What holds while arguments are parsed one after another: the same as in `Command`, but by the flags in force in place of
--- the arguments before. Only private functions cite these.
+-- The invariant while arguments are parsed in order: as in `Command`, but by the flags in force instead of the arguments before.
+-- Only private functions cite these.
 use Rattle.std.specs.Prelude.{◌≡◌, ℕ, List, [], ◌∷◌, ◌++◌, Bool, false, ◌||◌, ◌&&◌, not, Result, Ok, Err, MatchResult, codes, map, if◌then◌else◌}
 use Rattle.std.specs.Str.{bytes_eq}
 use Rattle.globset.specs.GlobMatches.{GlobValue}
@@ -70,19 +70,19 @@ collect_onto globs [] = Ok globs
 collect_onto globs (Ok glob ∷ more) = collect_onto (globs ++ glob ∷ []) more
 collect_onto globs (Err fault ∷ more) = Err fault
 
--- the globs so far, and then that of an argument before `--`
+-- the globs so far, and then the glob of an argument before `--`
 abbrev pub with_argument : GlobArguments → List ℕ → Result (List GlobValue) FaultValue
 with_argument old argument = collect_onto (builder_globs old.globs) (parse_with_flags old.flags argument)
 
--- the globs so far, and then those of arguments with no `--` before them
+-- the globs so far, and then the globs of arguments with no `--` before them
 abbrev pub with_arguments : GlobArguments → List (List ℕ) → Result (List GlobValue) FaultValue
 with_arguments old arguments = collect_onto (builder_globs old.globs) (parse_all_with_flags old.flags arguments)
 
--- the globs so far, and then those of arguments after `--`
+-- the globs so far, and then the globs of arguments after `--`
 abbrev pub with_globs : GlobArguments → List (List ℕ) → Result (List GlobValue) FaultValue
 with_globs old arguments = collect_onto (builder_globs old.globs) (parse_globs old.flags arguments)
 
--- arguments were parsed from the first one on, or the first of them that is wrong is the error
+-- arguments were parsed from the first on, or the first wrong argument is the error
 abbrev pub Parses : List (List ℕ) → Result GlobArguments CommandFault → Type 0
 Parses arguments result = MatchResult result
     (λ parsed. (collect_globs (parse_arguments [] arguments) ≡ Ok (builder_globs parsed.globs)) × (parsed.flags.numbered ≡ is_numbered arguments))
@@ -94,7 +94,7 @@ ParsesUpToEnd old new arguments after result = MatchResult result
     (λ x. (with_globs new (after x) ≡ with_arguments old arguments) × (new.flags.numbered ≡ (old.flags.numbered || is_numbered arguments)))
     (IsFaultOf (with_arguments old arguments))
 
--- so was one argument before `--`
+-- so was an argument before `--`
 abbrev pub ParsesOne : {X : Type 0} → GlobArguments → GlobArguments → List ℕ → Result X CommandFault → Type 0
 ParsesOne old new argument result = MatchResult result
     (λ _. (with_argument old argument ≡ Ok (builder_globs new.globs)) × (new.flags ≡ flags_after old.flags argument))

@@ -29,8 +29,8 @@ pub record IsWholeLines (bytes : List ℕ) : Type 0 where
   pub lines_go_on : (more : List ℕ) → lines (bytes ++ more) ≡ lines bytes ++ lines more
   pub last_goes_on : (more : List ℕ) → through_last_lf (bytes ++ more) ≡ bytes ++ through_last_lf more
 
--- These bytes were handled: they are whole lines and a rest with no LF. The output for the lines was written, or is pending
--- after what was pending before. Nothing was output for the rest yet. `any` says whether a line was output.
+-- These bytes were handled: they are whole lines and a rest with no LF. The output for the lines was written, or is pending after
+-- earlier output. Nothing was output for the rest yet. `any` says whether a line was output.
 pub record Handles (globs : List GlobValue) (numbered : Bool) (bytes rest : List ℕ) (old new : Option (List ℕ)) (pending pending' : List ℕ) (any any' : Bool) : Type 0 where
   pub whole : List ℕ
   pub bytes_are : bytes ≡ whole ++ rest

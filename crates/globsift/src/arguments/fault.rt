@@ -12,7 +12,7 @@ pub enum CommandFault {
     NoGlob,
     /// No argument follows `--set`.
     SetWithoutText,
-    /// There is an argument other than `-n` beside `--set` and its text.
+    /// There is an argument other than `-n`, `--set` and its text.
     SetNotAlone,
     /// The text after `--set` is not JSON.
     NotJson,

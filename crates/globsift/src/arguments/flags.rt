@@ -40,7 +40,7 @@ impl Flags {
         }
     }
 
-    /// Applies an argument that is a flag, and returns whether it is one. Any other argument changes nothing.
+    /// Applies an argument that is a flag, and returns whether it is a flag. Any other argument changes nothing.
     pub fn apply(&mut self, argument: &str) -> bool
         ensures is { result ≡ is_flag argument.now }
         ensures flags { self.new ≡ flags_after self.old argument.now }

@@ -1,4 +1,4 @@
-//! Arguments that are globs and flags, parsed one after another.
+//! Arguments that are globs and flags, parsed in order.
 
 ghost use Rattle.std.specs.Prelude.{◌≡◌, ◌⊎◌, map, string_bytes};
 ghost use Rattle.globset.specs.Errors.{out_of_memory};
@@ -68,7 +68,7 @@ impl GlobArguments {
         Ok(())
     }
 
-    /// Adds the arguments after `--`, each of which is a glob.
+    /// Adds the arguments after `--`, which are globs.
     fn add_globs(&mut self, alloc: Global, arguments: &[String]) -> Result<(), CommandFault>
         ensures { AddsGlobs self.old self.new (map string_bytes arguments.now) result }
     {
@@ -87,7 +87,8 @@ fn starts_with_dash(argument: &str) -> bool
     matches!(argument.as_bytes(), [b'-', ..])
 }
 
-/// Returns the error of an argument that starts with `-` and is no flag. It is that of memory if the argument can't be copied.
+/// Returns the error of an argument that starts with `-` and is no flag. If the argument can't be copied, the error is that
+/// memory ran out.
 fn unknown_option(alloc: Global, argument: &str) -> CommandFault
     ensures { (fault_value result ≡ glob_error out_of_memory)
         ⊎ (fault_value result ≡ unknown_option argument.now) }

@@ -2,7 +2,7 @@
 
 use globset::GlobSet;
 
-/// What the arguments of a command line ask for.
+/// The parsed arguments of a command line.
 #[derive(Drop)]
 pub struct Command {
     /// The globs, in the order of their arguments.

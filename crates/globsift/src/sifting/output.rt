@@ -11,17 +11,17 @@ use memchr::memchr;
 use std::alloc::{AllocError, Global};
 use std::io::Write;
 
-/// The pending output is written before each read, and once it has at least this many bytes: more than are read at once, so that
-/// the plain output for what is read at once is mostly one write.
+/// The pending output is written before each read, and once it has at least this many bytes. That is more than a read returns, so
+/// that the plain output for a read is mostly one write.
 const FULL: usize = (64 + 4) << 10;
 
 /// The first capacity of the pending output: as much as is collected, and a line more.
 const ROOM: usize = FULL + (4 << 10);
 
-/// The output for lines: what it is made with, what is still to be written, and whether there was any. The vectors keep their
-/// capacity from line to line.
+/// The output for lines: how it is made, the pending output, and whether there was any. The vectors keep their capacity from line
+/// to line.
 pub struct Output {
-    /// What lines are matched with.
+    /// The searcher that lines are matched with.
     pub searcher: Searcher,
     /// Whether each line starts with the indexes that the set returns for it.
     pub numbered: bool,
@@ -91,7 +91,7 @@ impl Output {
         Ok(())
     }
 
-    /// Appends the output for a line, and writes what is pending if that fills the buffer.
+    /// Appends the output for a line, and writes the pending output if that fills the buffer.
     pub fn handle_line<W: Write>(&mut self, line: &[u8], writer: &mut W) -> Result<(), SiftFault>
         ensures done { HandlesLine self.old self.new (W.contents writer.old) (W.contents writer.new)
             line.now result }
@@ -123,7 +123,7 @@ impl Output {
     }
 }
 
-/// Returns a searcher of the set. Returns an error if memory runs out.
+/// Returns a searcher of the set.
 fn searcher_of(alloc: Global, set: &GlobSet) -> Result<Searcher, AllocError>
     ensures { IfOk result (λ searcher. searcher.set ≡ set.now) }
 {

@@ -13,7 +13,7 @@ use memchr::memchr;
 use std::alloc::{AllocError, Global};
 use std::io::Write;
 
-/// What is kept from chunk to chunk.
+/// The state between chunks.
 pub struct Sifter {
     /// The output for the lines so far.
     pub output: Output,
@@ -93,7 +93,7 @@ impl Sifter {
         self.output.handle_line(rest, writer)
     }
 
-    /// Handles the end of the input: handles the rest, writes what is pending and flushes the writer. Returns whether some
+    /// Handles the end of the input: handles the rest, writes the pending output and flushes the writer. Returns whether some
     /// line was output.
     pub fn finish<W: Write>(&mut self, writer: &mut W) -> Result<bool, SiftFault>
         requires { list_any is_lf self.old.rest.items ≡ false }

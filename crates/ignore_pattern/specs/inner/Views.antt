@@ -1,4 +1,4 @@
--- Elements and patterns as contracts see them, whatever memory holds them.
+-- Elements and patterns as contracts see them.
 use Rattle.ignore_pattern.specs.declared.element.Element.{Element}
 use Rattle.ignore_pattern.specs.declared.element.Element.TheVariants as held
 use Rattle.ignore_pattern.specs.declared.element.ElementAt.{ElementAt}
@@ -8,7 +8,7 @@ use Rattle.ignore_pattern.specs.Translation.{glob_options}
 use Rattle.ignore_pattern.specs.declared.pattern.IgnorePattern.{IgnorePattern}
 use Rattle.ignore_pattern.specs.declared.reading.PatternText.{PatternText}
 
--- an element; that of a class by its items
+-- an element; a class by its items
 abbrev pub element_of : Element → elements.Element
 element_of (held.Literal c) = elements.Literal c
 element_of held.Any = elements.Any
@@ -17,10 +17,10 @@ element_of held.Folders = elements.Folders
 element_of held.Everything = elements.Everything
 element_of (held.Class negated items) = elements.Class negated items.items
 
--- what was read at one position
+-- the reading at a position
 abbrev pub at_of : ElementAt → elements.ElementAt
 at_of e = elements.at (element_of e.element) e.more e.place
 
--- what a line says, with the glob of the text
+-- the pattern of a line, with the glob of the text
 abbrev pub with_glob : PatternText → IgnorePattern
 with_glob p = record { glob = record { text = string_bytes p.text; options = glob_options }; is_negated = p.is_negated; is_folders_only = p.is_folders_only }

@@ -1,4 +1,4 @@
--- Texts that are written piece by piece. What is written is bytes, and the definitions speak of characters.
+-- Texts that are written piece by piece. The code writes bytes, and the definitions speak of characters.
 use Rattle.std.specs.Prelude.{ℕ, Bool, true, false, List, [], ◌∷◌, ◌++◌, zero, suc, ◌+◌, ◌==◌, drop, Option, Some, None, encode_utf8_all, codes, if◌then◌else◌}
 use Rattle.std.specs.List.{prefix_len}
 use Rattle.std.specs.Str.{bytes_eq}
@@ -18,11 +18,11 @@ abbrev pub followed : List ℕ → Option (List ℕ) → Option (List ℕ)
 followed bytes None = None
 followed bytes (Some text) = Some (bytes ++ encode_utf8_all text)
 
--- the text of the elements of these characters, the first n of which belong to the element before them
+-- the text of the elements of these characters, where the first n belong to the element before them
 abbrev pub text_from : Bool → Place → ℕ → List ℕ → Option (List ℕ)
 text_from whole place n cs = option_and_then elements_text (elements whole place n cs)
 
--- Bytes and the text of what is left of these characters, after so many of them and at this place; none if there is no more.
+-- Bytes and the text of the rest of these characters, after this number of them and at this place; none if there is no more.
 abbrev pub continued : Bool → List ℕ → List ℕ → Option (ℕ × Place) → Option (List ℕ)
 continued whole cs bytes None = None
 continued whole cs bytes (Some next) = followed bytes (text_from whole next.1 zero (drop next.0 cs))
@@ -36,7 +36,8 @@ text_of whole (e ∷ es) = if whole then whole_text (e ∷ es) else after_folder
 abbrev pub mended : List ℕ → List ℕ
 mended text = if bytes_eq text (codes "**/") then codes "{**/}" else (if bytes_eq text (codes "**/..") then codes "{**/}.." else text)
 
--- How many characters belong to a `**/` at the start, if there is one, where the stars after the first one are `more`, and `rest` follows them.
+-- The number of characters of a `**/` at the start, if there is any, where the stars after the first are `more`, and `rest`
+-- follows them.
 abbrev pub folders_after : ℕ → List ℕ → Option ℕ
 folders_after zero rest = None
 folders_after (suc k) rest = if begins_with 47 rest then Some (suc k + 2) else None

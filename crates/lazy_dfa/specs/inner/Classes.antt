@@ -3,7 +3,7 @@ use Rattle.std.specs.Prelude.{ℕ, ◌<◌, ◌≤◌, List, slice_index}
 use Rattle.byte_nfa.specs.Steps.{State}
 use Rattle.byte_nfa.specs.Equivalent.{AreEquivalent}
 
--- each byte below the bound has one of the classes up to the last, and is read as the first byte of the class
+-- each byte below the bound has a class up to the last, and is read as the first byte of the class
 abbrev pub AreEquivalenceClassesBelow : List State → List ℕ → List ℕ → ℕ → ℕ → Type 0
 AreEquivalenceClassesBelow a class_of representatives last bound =
     (b : ℕ) → b < bound → (slice_index class_of b ≤ last) × AreEquivalent a (slice_index representatives (slice_index class_of b)) b

@@ -1,4 +1,4 @@
--- Lists of indexes, one after another in a list of numbers.
+-- Lists of indexes, in order in a list of numbers.
 use Rattle.std.specs.Prelude.{◌≡◌, ℕ, ◌+◌, ◌<◌, ◌≤◌, ◌↔◌, IsTrue, List, length, take, drop, slice_index}
 use Rattle.bit_sets.specs.Numbers.{has_number}
 

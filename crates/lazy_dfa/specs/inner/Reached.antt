@@ -10,7 +10,8 @@ use Rattle.lazy_dfa.specs.declared.run.Reached.{Reached}
 use Rattle.lazy_dfa.specs.declared.run.Reached.TheVariants.{Decided, Nothing, Row}
 use Rattle.lazy_dfa.specs.inner.Rows.{IsAt, AcceptsRow, FindsBy}
 
--- whatever follows the text: some index is found; or none is; or those are that the row at the place leads to by what follows
+-- With every text after this text: some index is found, or no index is, or the found indexes are those that the row at the place
+-- leads to by the added text.
 abbrev pub IsWhereBy : NfaValue → Rows → (List ℕ → ℕ → Type 0) → List ℕ → Reached → Type 0
 IsWhereBy m rows P text Decided = (z : List ℕ) → (k : ℕ) × FindsBy (half m) P (text ++ z) k
 IsWhereBy m rows P text Nothing = (z : List ℕ) (k : ℕ) → FindsBy (half m) P (text ++ z) k → ⊥
@@ -24,18 +25,18 @@ IsWhere m rows = IsWhereBy m rows (IsReached m)
 abbrev pub IsWhereFrom : NfaValue → Rows → ℕ → List ℕ → Reached → Type 0
 IsWhereFrom m rows i = IsWhereBy m rows (AcceptsRow m rows i)
 
--- the bytes that were read lead from the row of number i of the old rows to the row at the place of the new ones
+-- the bytes that were read lead from the row of number i of the old rows to the row at the place of the new rows
 pub record HasRead (m : NfaValue) (old : Rows) (i : ℕ) (text : List ℕ) (new : Rows) (left : Left) : Type 0 where
   pub within : left.at ≤ length text
   pub row : (j : ℕ) × IsAt new j left.place × ((z : List ℕ) (k : ℕ) → FindsBy (half m) (AcceptsRow m new j) (drop left.at text ++ z) k ↔ FindsBy (half m) (AcceptsRow m old i) (text ++ z) k)
 
--- What is found in the text from the row of number i of the old rows is what is found in the rest from the row at the place of the new
--- ones, and what the new set has, beside what the old one has.
+-- The indexes found in the text from the row of number i of the old rows, together with the old set, are the indexes found in the
+-- rest from the row at the place of the new rows, together with the new set.
 pub record IsLeft (m : NfaValue) (old : Rows) (i : ℕ) (text : List ℕ) (had : IndexSet) (new : Rows) (has : IndexSet) (left : Left) : Type 0 where
   pub within : left.at ≤ length text
   pub row : (j : ℕ) × IsAt new j left.place × ((k : ℕ) → (FindsBy (half m) (AcceptsRow m new j) (drop left.at text) k ⊎ IsTrue (has_index has k)) ↔ (FindsBy (half m) (AcceptsRow m old i) text k ⊎ IsTrue (has_index had k)))
 
--- the new set has what the old one has, and nothing else but what is found in the text
+-- the new set has the old set's indexes, and otherwise only indexes that are found in the text
 pub record MayHold (m : NfaValue) (text : List ℕ) (old new : IndexSet) : Type 0 where
   pub kept : (k : ℕ) → IsTrue (has_index old k) → IsTrue (has_index new k)
   pub sound : (k : ℕ) → IsTrue (has_index new k) → FindsBy (half m) (IsReached m) text k ⊎ IsTrue (has_index old k)

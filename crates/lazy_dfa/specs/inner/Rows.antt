@@ -37,7 +37,7 @@ HasMarks m rows i = (k : ℕ) × (k < half m) × AcceptsRow m rows i [] (half m 
 abbrev pub IsAt : Rows → ℕ → ℕ → Type 0
 IsAt rows i p = (i < length rows.starts.items) × (p ≡ i * (rows.class_count + 1))
 
--- the byte leads from the row of number i of the old rows to where the row at the place p of the new ones is
+-- the byte leads from the row of number i of the old rows to the row at the place p of the new rows
 abbrev pub GoesTo : NfaValue → Rows → ℕ → ℕ → Rows → ℕ → Type 0
 GoesTo m old i b new p = (j : ℕ) × IsAt new j p × ((y : List ℕ) (k : ℕ) → AcceptsRow m old i (b ∷ y) k ↔ AcceptsRow m new j y k)
 
@@ -53,7 +53,7 @@ HasEnds m rows i ends = (k : ℕ) → k < half m + half m → IsTrue (has_index 
 abbrev pub marked : ℕ
 marked = 2147483648
 
--- what is added to the entries of a row
+-- the number that is added to the entries of a row
 abbrev pub MarksAre : NfaValue → Rows → ℕ → ℕ → Type 0
 MarksAre m rows i n = (HasMarks m rows i × (n ≡ marked)) ⊎ ((HasMarks m rows i → ⊥) × (n ≡ 0))
 
@@ -61,8 +61,8 @@ MarksAre m rows i n = (HasMarks m rows i × (n ≡ marked)) ⊎ ((HasMarks m row
 abbrev pub BeginsAt : NfaValue → Rows → ℕ → Type 0
 BeginsAt m rows p = (j : ℕ) × IsAt rows j p × ((y : List ℕ) (k : ℕ) → AcceptsRow m rows j y k ↔ IsReached m y k)
 
--- where a byte leads from the row of number i of the old rows: to no end, or to a row of the new ones; and whether the row that was left
--- has marks, and which
+-- Where a byte leads from the row of number i of the old rows: to no end, or to a row of the new rows. It also says whether the
+-- left row has marks, and which.
 pub record IsStep (m : NfaValue) (old : Rows) (i b : ℕ) (step : Step) (new : Rows) : Type 0 where
   pub next : MatchOption step.next (IsDeadBy m old i b) (GoesTo m old i b new)
   pub marks : IsTrue step.has_marks ↔ HasMarks m old i
@@ -72,16 +72,16 @@ pub record IsStep (m : NfaValue) (old : Rows) (i b : ℕ) (step : Step) (new : R
 abbrev pub IsPlainStep : NfaValue → Rows → ℕ → ℕ → ℕ → Type 0
 IsPlainStep m rows i b p = (HasMarks m rows i → ⊥) × GoesTo m rows i b rows p
 
--- the set has what the row of number i has marks of
+-- the set has the indexes of the marks of the row of number i
 abbrev pub HasTold : NfaValue → Rows → ℕ → IndexSet → Type 0
 HasTold m rows i found = (k : ℕ) → k < half m → AcceptsRow m rows i [] (half m + k) → IsTrue (has_index found k)
 
--- the new set has what the row of number i has marks of, beside what the old one has
+-- the new set has the indexes of the marks of the row of number i, in addition to the old set
 abbrev pub AddsMarks : NfaValue → Rows → ℕ → IndexSet → IndexSet → Type 0
 AddsMarks m rows i old new = (k : ℕ) → IsTrue (has_index new k) ↔ (((k < half m) × AcceptsRow m rows i [] (half m + k)) ⊎ IsTrue (has_index old k))
 
--- the byte leads from the row of number i to the row at the place p, and the new set has what the row has marks of, beside what the old one
--- has
+-- the byte leads from the row of number i to the row at the place p, and the new set has the indexes of the row's marks, in
+-- addition to the old set
 pub record IsMarkedStep (m : NfaValue) (rows : Rows) (i b : ℕ) (old new : IndexSet) (p : ℕ) : Type 0 where
   pub next : GoesTo m rows i b rows p
   pub told : AddsMarks m rows i old new
@@ -101,8 +101,8 @@ pub record IsEntryBy (m : NfaValue) (rows : Rows) (i b e : ℕ) : Type 0 where
   pub plain : e < marked → (HasMarks m rows i → ⊥) × IsNext m rows i b e
   pub marks : marked ≤ e → HasMarks m rows i × (0 < e - marked) × IsNext m rows i b (e - marked)
 
--- what the entry for the end of the text says: it is 1 where the row leads to no end without a byte, and otherwise 2 more than the place
--- of the list of the indexes of these
+-- The meaning of the entry for the end of the text. It is 1 where the row leads to no end without a byte. Otherwise it is 2 more
+-- than the place of the list of the indexes of these ends.
 pub record IsEnd (m : NfaValue) (rows : Rows) (i e : ℕ) : Type 0 where
   pub none : e ≡ 1 → (k : ℕ) → k < half m + half m → AcceptsRow m rows i [] k → ⊥
   pub some : 1 < e → (k : ℕ) × (k < half m + half m) × AcceptsRow m rows i [] k
@@ -113,7 +113,7 @@ pub record IsEntry (m : NfaValue) (rows : Rows) (i c e : ℕ) : Type 0 where
   pub byte : (b : ℕ) → b < 256 → slice_index rows.class_of b ≡ c → IsEntryBy m rows i b e
   pub end : c ≡ rows.class_count → IsEnd m rows i e
 
--- there are at most so many rows, and so many entries
+-- the bound on the number of rows, and of entries
 abbrev pub max_entries : ℕ
 max_entries = 2147483646
 
@@ -123,7 +123,7 @@ pub record IsFirst (m : NfaValue) (list : List ℕ) : Type 0 where
   pub few : length list ≤ size m
   pub accepts : (y : List ℕ) (k : ℕ) → AcceptsIn m list y k ↔ IsReached m y k
 
--- there is room for one row, whatever its states are, and for one pass, and it is told which states a run begins in
+-- there is room for a row with any states, and for a pass, and the states in which a run begins are known
 pub record HasRoomFor (m : NfaValue) (rows : Rows) : Type 0 where
   pub from : size m ≤ state_capacity rows.from
   pub next : size m ≤ state_capacity rows.next
@@ -163,7 +163,7 @@ pub record KeepsRows (old new : Rows) : Type 0 where
   pub class_of : new.class_of ≡ old.class_of
   pub class_count : new.class_count ≡ old.class_count
 
--- there is room for a row more, whatever its states are
+-- there is room for another row, with any states
 pub record HasSpace (m : NfaValue) (rows : Rows) : Type 0 where
   pub lists : length rows.lists.items + size m < vec_capacity rows.lists
   pub places : length rows.lists.items < 4294967296
@@ -176,6 +176,6 @@ pub record HasSpace (m : NfaValue) (rows : Rows) : Type 0 where
 abbrev pub FindsBy : ℕ → (List ℕ → ℕ → Type 0) → List ℕ → ℕ → Type 0
 FindsBy n P y k = (k < n) × (P y k ⊎ ((p : List ℕ) × (q : List ℕ) × (y ≡ p ++ q) × P p (n + k)))
 
--- the new set has what is found in the text from the row of number i, beside what the old one has
+-- the new set has the indexes found in the text from the row of number i, in addition to the old set
 abbrev pub AddsFound : NfaValue → Rows → ℕ → List ℕ → IndexSet → IndexSet → Type 0
 AddsFound m rows i text old new = (k : ℕ) → IsTrue (has_index new k) ↔ (FindsBy (half m) (AcceptsRow m rows i) text k ⊎ IsTrue (has_index old k))

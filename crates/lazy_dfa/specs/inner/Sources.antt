@@ -1,4 +1,4 @@
--- What a lazy automaton is made of.
+-- The parts of a lazy automaton.
 use Rattle.std.specs.Prelude.{◌≡◌, ℕ, ◌+◌, ◌/◌, ◌<◌, ◌≤◌, ◌⊎◌, List, length, slice_index, IsTrue}
 use Rattle.bit_sets.specs.Indexes.{has_index}
 use Rattle.bit_sets.specs.declared.index_set.IndexSet.{IndexSet}
@@ -26,7 +26,7 @@ pub record FitsU32 (m : NfaValue) : Type 0 where
 abbrev pub ListsEnds : NfaValue → List ℕ → Type 0
 ListsEnds m list = (s k : ℕ) → s < size m → k < half m → (state m.states s ≡ match_state k) ⊎ (state m.states s ≡ match_state (half m + k)) → IsTrue (has_number k list)
 
--- the first of the indexes, so many, are in the set
+-- the first `count` indexes of the list are in the set
 abbrev pub AreFound : List ℕ → ℕ → IndexSet → Type 0
 AreFound indexes count found = (j : ℕ) → j < count → j < length indexes → IsTrue (has_index found (slice_index indexes j))
 

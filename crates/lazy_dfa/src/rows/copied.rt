@@ -7,7 +7,7 @@ use crate::lists::copy_within;
 use byte_nfa::Nfa;
 
 impl Rows {
-    /// Takes over the rows that another cache for the same automaton has, if there is room for all of them. It takes no memory.
+    /// Takes over the rows that another cache for the same automaton has, if there is room for all of them. It does not allocate.
     pub fn take_over(&mut self, automaton: &Nfa, other: &Rows)
         requires sound { IsSound automaton.now self.old }
         requires other { IsSound automaton.now other.now }

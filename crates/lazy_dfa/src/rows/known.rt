@@ -1,4 +1,4 @@
-//! Entries that are known. What they say is read through a shared reference.
+//! Entries that are known. They are read through a shared reference.
 
 ghost use Rattle.std.specs.Prelude.{◌≡◌, ℕ, ◌+◌, ◌*◌, ◌<◌, ◌≤◌, ◌⊎◌, ◌↔◌, [], IsTrue, IsFalse, IfSome, MatchOption, length};
 ghost use Rattle.bit_sets.specs.Indexes.{has_index, index_capacity};
@@ -20,8 +20,8 @@ impl Rows {
         self.begin
     }
 
-    /// Returns the place of the row that a byte leads to from the row at a place, if that is known and the row has no marks, which is
-    /// one visit.
+    /// Returns the place of the row that a byte leads to from the row at a place, if that is known and the row has no marks. It
+    /// is a visit.
     #[inline(always)]
     pub fn plain_next(
         &self,
@@ -48,8 +48,7 @@ impl Rows {
         }
     }
 
-    /// Returns where a run remembers that the marks of the row at a place were told. 16 rows that were made one after another have
-    /// one each.
+    /// Returns where a run remembers that it has found the marks of the row at a place. 16 adjacent rows have different places.
     pub fn slot_of(&self, place: usize) -> usize
         requires { self.now.class_count < max_entries }
         ensures { result < 16 }
@@ -59,8 +58,8 @@ impl Rows {
         (place >> (width.trailing_zeros() % 64)) % REMEMBERED
     }
 
-    /// Returns the place of the row that a byte leads to from the row at a place, if the row has marks, and these and the place are
-    /// known, which is one visit. Its marks are in the set then: they are put into it, unless they were told before.
+    /// Returns the place of the row that a byte leads to from the row at a place, if the row has marks, and these and the place
+    /// are known. It is a visit. The set then has the marks: they are put into it, unless the run has found them before.
     pub fn marked_next(
         &self,
         automaton: &Nfa,
@@ -113,8 +112,8 @@ impl Rows {
         true
     }
 
-    /// Returns whether it is known that a byte leads to no end from the row at a place, which is one visit. What the row has marks of
-    /// is put into a set then.
+    /// Returns whether it is known that a byte leads to no end from the row at a place, which is a visit. The indexes of the
+    /// row's marks are put into a set then.
     pub fn is_known_dead(
         &self,
         automaton: &Nfa,
@@ -143,7 +142,7 @@ impl Rows {
         is_dead
     }
 
-    /// Returns where a byte leads from the row at a place, if that is known, which is one visit.
+    /// Returns where a byte leads from the row at a place, if that is known, which is a visit.
     #[inline(always)]
     pub fn known_step(
         &self,
@@ -177,7 +176,7 @@ impl Rows {
         })
     }
 
-    /// Returns whether the row at a place leads to some end without a byte, if that is known, which is one visit.
+    /// Returns whether the row at a place leads to some end without a byte, if that is known, which is a visit.
     pub fn known_end(&self, automaton: &Nfa, place: usize, visits: &mut Visits) -> Option<bool>
         requires sound { IsSound automaton.now self.now }
         requires row { (i : ℕ) × IsAt self.now i place }
@@ -197,8 +196,8 @@ impl Rows {
         Some(end >= FIRST)
     }
 
-    /// Returns whether it is known to which ends the row at a place leads without a byte, which is one visit. What is found at the end
-    /// of a text is put into a set then.
+    /// Returns whether it is known which ends the row at a place leads to without a byte, which is a visit. The indexes of these
+    /// ends are put into a set then.
     pub fn tell_known_end(
         &self,
         automaton: &Nfa,

@@ -53,8 +53,8 @@ impl GivenUp {
 }
 
 impl Rows {
-    /// Puts what is found in the next bytes of a text from the row at a place into a set, beside what it holds, by sets of states, if a
-    /// run gives up rows. Returns from where the run goes on, or `None` if nothing follows.
+    /// Puts the indexes found in the next bytes of a text from the row at a place into a set, next to its contents, by sets of
+    /// states. A run calls it where it gives up rows. Returns where the run goes on, or `None` if nothing follows.
     pub fn find_stepped(
         &mut self,
         automaton: &Nfa,

@@ -15,7 +15,7 @@ use Rattle.glob_strategy.specs.IndexedTokens.{IndexedTokens, SomeMatches, IsFor}
 use Rattle.glob_path.specs.Below.{folder_start}
 use Rattle.glob_path.specs.PathParts.{last_component, component_extension}
 
--- ---- automata for globs that match only paths with one extension
+-- ---- automata for globs that match only paths with a given extension
 
 -- the first of some indexes
 abbrev pub first : List ℕ → Option ℕ
@@ -28,11 +28,11 @@ pub record ExtensionParts : Type 0 where
   pub none : NfaValue
   pub index_count : ℕ
 
--- the slot of an extension, if it has one
+-- the slot of an extension, if any
 abbrev pub slot_of : List Entry → List ℕ → Option ℕ
 slot_of slots extension = first (indexes_under slots extension)
 
--- what is true of the parts of each such value
+-- the invariants of such a value's parts
 pub record AreExtensionMatchers (slots : List Entry) (nfas : List NfaValue) (none : NfaValue) (n : ℕ) : Type 0 where
   -- each slot is a position of an automaton
   pub held : (extension : List ℕ) (s : ℕ) → HasNumber s (indexes_under slots extension) → s < length nfas
@@ -53,15 +53,15 @@ AreFor nfas tokens = (s : ℕ) (d : NfaValue) → s < length nfas → IsFor (get
 abbrev pub tokens_under : (ℕ → List IndexedTokens) → List Entry → List ℕ → List IndexedTokens
 tokens_under tokens slots extension = option_map_or tokens (slot_of slots extension) []
 
--- the automaton of a slot, or one without states
+-- the automaton of a slot, or an automaton without states
 abbrev pub nfa_at : ExtensionParts → Option ℕ → NfaValue
 nfa_at e slot = option_map_or (λ s. get_or e.nfas s e.none) slot e.none
 
--- the automaton of an extension; one without states if it has no slot
+-- the automaton of an extension; an automaton without states if it has no slot
 abbrev pub nfa_under : ExtensionParts → List ℕ → NfaValue
 nfa_under e extension = nfa_at e (slot_of e.slots extension)
 
--- the tokens of one of the first n slots match some text that begins with y
+-- the tokens of some slot below n match some text that begins with y
 abbrev pub SomeExtensionAfter : ℕ → (ℕ → List IndexedTokens) → List ℕ → Type 0
 SomeExtensionAfter n tokens y = (s : ℕ) × (s < n) × SomeMeanAfter (tokens s) y
 
@@ -76,7 +76,7 @@ pub record KeepsTokens (old : ExtensionParts) (before : ℕ → List IndexedToke
   pub same : (extension : List ℕ) → tokens_under tokens new.slots extension ≡ tokens_under before old.slots extension
   pub after : (y : List ℕ) → SomeExtensionAfter (length new.nfas) tokens y ↔ SomeExtensionAfter (length old.nfas) before y
 
--- one extension has these tokens in addition, and the others have those that they had; so it is with all slots together
+-- an extension has these tokens in addition, and the others keep theirs; the same holds for all slots together
 pub record AddsTokens (old : ExtensionParts) (before : ℕ → List IndexedTokens) (new : ExtensionParts) (key : List ℕ) (x : IndexedTokens) : Type 0 where
   pub tokens : ℕ → List IndexedTokens
   pub are_for : AreFor new.nfas tokens
@@ -84,11 +84,11 @@ pub record AddsTokens (old : ExtensionParts) (before : ℕ → List IndexedToken
   pub others : (extension : List ℕ) → (extension ≢ key) → tokens_under tokens new.slots extension ≡ tokens_under before old.slots extension
   pub after : (y : List ℕ) → SomeExtensionAfter (length new.nfas) tokens y ↔ (SomeExtensionAfter (length old.nfas) before y ⊎ MeanAfter x.options x.tokens y)
 
--- the same of whatever tokens the automata were for
+-- the same for any tokens of the automata
 abbrev pub AddsTokensTo : ExtensionParts → ExtensionParts → List ℕ → IndexedTokens → Type 0
 AddsTokensTo old new key x = (before : ℕ → List IndexedTokens) → AreFor old.nfas before → AddsTokens old before new key x
 
--- the automaton of one extension may have so many more reads, and those of the others no more than they had
+-- the automaton of an extension may have this number of reads more, and the others no more than before
 abbrev pub AddsReads : ExtensionParts → ExtensionParts → List ℕ → ℕ → Type 0
 AddsReads old new key n = (extension : List ℕ) → max_reads (nfa_under new extension) ≤ max_reads (nfa_under old extension) + cond (bytes_eq key extension) n 0
 
@@ -118,7 +118,7 @@ pub record HaveOneCount (by_path by_component : NfaValue) (extensions : Extensio
   pub of_path : by_path.index_count ≡ extensions.index_count
   pub of_component : by_component.index_count ≡ extensions.index_count
 
--- and the largest of them has so many states, and whether some text leads to an end of the one for last components
+-- and the number of states of the largest of them, and whether some text leads to an end of the automaton for last components
 pub record AreMeasured (by_path by_component : NfaValue) (extensions : ExtensionParts) (maximum : ℕ) (has_component : Bool) : Type 0 where
   pub counts : HaveOneCount by_path by_component extensions
   pub largest : maximum ≡ max_states (record { by_path = by_path; by_component = by_component; extensions = extensions })
@@ -144,8 +144,8 @@ abbrev pub AreFound : List Entry → TokenLists → List ℕ → ℕ → Type 0
 AreFound slots t path k =
     SomeMatches t.by_path path k ⊎ (SomeMatches t.by_component (last_component path) k ⊎ SomeMatches (tokens_under t.by_slot slots (component_extension path)) (before_extension path) k)
 
--- Tokens match the part that they are run on of some path below the folder: the last component may be any text, whatever the
--- folder is, and so may the extension, before which the path still has the folder and its `/`.
+-- Tokens match their part of some path below the folder. The last component may be any text, with every folder. The extension may
+-- be any text, too; before it the path still has the folder and its `/`.
 abbrev pub AreFoundBelow : ExtensionParts → TokenLists → List ℕ → Type 0
 AreFoundBelow e t folder = SomeMeanAfter t.by_component [] ⊎ (SomeMeanAfter t.by_path (folder_start folder) ⊎ SomeExtensionAfter (length e.nfas) t.by_slot (folder_start folder))
 

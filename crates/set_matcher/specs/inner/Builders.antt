@@ -1,11 +1,11 @@
--- Builders of automata, which are made for the first glob that needs one.
+-- Builders of automata, which are made for the first glob that needs an automaton.
 use Rattle.std.specs.Prelude.{◌≡◌, ℕ, Option}
 use Rattle.std.specs.Global.{Box}
 use Rattle.std.specs.Option.{option_map_or}
 use Rattle.set_matcher.specs.declared.automata.Builders.{Builders}
 use Rattle.set_matcher.specs.inner.Automata.{AutomataParts, HaveOneCount, no_automata}
 
--- the automata of what was added
+-- the automata of the added globs
 abbrev pub built : Builders → AutomataParts
 built b = record { by_path = b.by_path; by_component = b.by_component; extensions = b.extensions }
 

@@ -4,7 +4,7 @@ use Rattle.byte_nfa.specs.Steps.{NfaValue}
 use Rattle.set_matcher.specs.declared.caches.Caches.{Caches}
 use Rattle.set_matcher.specs.inner.Automata.{AutomataParts}
 
--- the cache of a slot, if there is one, is of the automaton
+-- the cache of a slot, if any, is of the automaton
 abbrev pub IsCacheAt : List (Option NfaValue) → ℕ → NfaValue → Type 0
 IsCacheAt caches slot m = IfSome (slice_index_or caches slot None) (λ c. c ≡ m)
 
@@ -12,7 +12,7 @@ IsCacheAt caches slot m = IfSome (slice_index_or caches slot None) (λ c. c ≡ 
 abbrev pub AreSlotCaches : List NfaValue → NfaValue → List (Option NfaValue) → Type 0
 AreSlotCaches nfas none caches = (s : ℕ) → IsCacheAt caches s (get_or nfas s none)
 
--- each cache that is there is one of the automaton that it is used with
+-- each cache is of the automaton with which it is used
 pub record AreCachesOf (a : AutomataParts) (caches : Caches) : Type 0 where
   pub path : IfSome caches.by_path (λ c. c ≡ a.by_path)
   pub component : IfSome caches.by_component (λ c. c ≡ a.by_component)

@@ -7,7 +7,7 @@ use Rattle.std.proofs.Common.{Vec}
 use Rattle.byte_keys.specs.Entries.{Entry}
 use Rattle.set_matcher.specs.inner.Automata.{slot_of}
 
--- the slot under an extension, if there is one
+-- the slot under an extension, if any
 abbrev pub slot_in : {X : Type 0} → BTreeMap (Vec ℕ X) ℕ → List ℕ → Option ℕ
 slot_in slots extension = get_by (λ k. slice_cmp nat_cmp extension k.items) slots
 

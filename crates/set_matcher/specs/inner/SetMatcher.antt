@@ -1,4 +1,4 @@
--- What is stored to tell which globs of a list match a path.
+-- The stored form of a list of globs, for finding the globs that match a path.
 use Rattle.std.specs.Prelude.{◌≡◌, ◌↔◌, ◌⊎◌, ℕ, ◌≤◌, All, List, [], ◌∷◌, ◌++◌, Contains, Option, cond, length, sum_by, IsTrue}
 use Rattle.std.specs.Global.{Box}
 use Rattle.set_matcher.specs.inner.TokenGlobs.{TokenGlob, is_reported, is_reported_at, load, token_globs, SomeReportedBelow, load_below}
@@ -9,7 +9,7 @@ use Rattle.glob_path.specs.KeysBelow.{MatchesBelow}
 use Rattle.glob_path.specs.LiteralIndex.{KeyParts, keys_found}
 use Rattle.set_matcher.specs.inner.Automata.{AutomataParts, TokenLists, AreForLists, AreFound, AreFoundBelow, automata_or_none, folder_reads, reads_for}
 
--- the keys of globs, and automata for the globs without one
+-- the keys of globs, and automata for the globs without a key
 pub record SetMatcherParts : Type 0 where
   pub keys : KeyParts
   pub automata : AutomataParts
@@ -21,8 +21,8 @@ set_matcher_parts keys automata = record { keys = keys; automata = automata }
 abbrev pub listed_count : List TokenGlob → List ℕ → ℕ
 listed_count globs path = sum_by (λ g. cond (is_reported g path) 1 0) globs
 
--- For each path the indexes that are found are those of the globs of the list that are not excluded and match the path. Keys
--- find each index at most once. The reads are for globs that need an automaton. So it is with the paths below a folder.
+-- For each path the found indexes are those of the globs of the list that are not excluded and match the path. Keys find each
+-- index at most once. The reads are for globs that need an automaton. The same holds for the paths below a folder.
 pub record IsSetMatcherOf (globs : List TokenGlob) (g : SetMatcherParts) : Type 0 where
   pub tokens : TokenLists
   pub are_for : AreForLists g.automata tokens
@@ -32,12 +32,12 @@ pub record IsSetMatcherOf (globs : List TokenGlob) (g : SetMatcherParts) : Type 
   pub below : (folder : List ℕ) → AllBytes folder → (MatchesBelow g.keys folder ⊎ AreFoundBelow g.automata.extensions tokens folder) ↔ SomeReportedBelow globs folder
   pub few_below : folder_reads g.automata ≤ load_below globs
 
--- The parts are a matcher of one more glob than before, which has this index.
+-- The parts are a matcher of another glob after the others, which has this index.
 abbrev pub AddsGlob : TokenGlob → ℕ → SetMatcherParts → SetMatcherParts → Type 0
 AddsGlob glob index old new = (globs : List TokenGlob) → index ≡ length globs → IsSetMatcherOf globs old → IsSetMatcherOf (globs ++ glob ∷ []) new
 
--- What is true of the parts of each such value: they are a matcher of the globs, each of which was read, and of which there are
--- so many. No more states are run than the costs of the globs allow. Automata have an index for each glob.
+-- The invariants of such a value's parts: they are a matcher of this number of globs, and each glob was read. No more states are
+-- run than the costs of the globs allow. Automata have an index for each glob.
 pub record IsMatcherOf (given : List GlobValue) (len : ℕ) (keys : KeyParts) (automata : AutomataParts) : Type 0 where
   pub read : All IsRead given
   pub matcher : IsSetMatcherOf (token_globs given) (set_matcher_parts keys automata)
@@ -46,7 +46,7 @@ pub record IsMatcherOf (given : List GlobValue) (len : ℕ) (keys : KeyParts) (a
   pub counted : len ≡ length given
   pub indexed : len ≤ automata.extensions.index_count
 
--- The same of a matcher, which has automata only if some glob needs one. They have no other index.
+-- The same of a matcher, which has automata only if some glob needs any. They have no other index.
 pub record KeepsMatcherOf (given : List GlobValue) (len : ℕ) (keys : KeyParts) (automata : Option (Box AutomataParts)) : Type 0 where
   pub of_globs : IsMatcherOf given len keys (automata_or_none len automata)
   pub count : (automata_or_none len automata).extensions.index_count ≡ len

@@ -17,8 +17,8 @@ impl Automata {
     /// Returns whether tokens match the part that they are run on of some path below a folder.
     ///
     /// A path below the folder may have any last component, so no automaton is run for that. It may have any extension, so the
-    /// automata of all extensions are run over the folder. Each is run by the rows of its cache if there is one. The
-    /// sets get room for each state of an automaton that is stepped. Returns an error if memory runs out.
+    /// automata of all extensions are run over the folder. Each is run by the rows of its cache if there is any. The sets get
+    /// room for each state of an automaton that is stepped.
     pub fn can_match_below(
         &self,
         folder: &[u8],
@@ -55,7 +55,7 @@ impl Automata {
 
 /// Returns whether some text leads to an end of an automaton.
 ///
-/// It reads each state, and takes two bits of memory for each of them until it returns. Returns an error if memory runs out.
+/// It reads each state, and takes two bits of memory for each of them until it returns.
 pub fn has_text(alloc: Global, automaton: &Nfa) -> Result<bool, AllocError>
     ensures { IfOk result (λ yes. IsTrue yes ↔ MatchesAfter automaton.now []) }
 {

@@ -1,4 +1,4 @@
-//! Automata for globs that match only paths whose last component has one extension.
+//! Automata for globs that match only paths whose last component has a given extension.
 
 ghost use Rattle.std.specs.Prelude.{◌≡◌, ◌+◌, ◌*◌, ◌<◌, ◌≤◌, ◌↔◌, ◌++◌, ◌∷◌, [], ℕ, List, length, IsTrue, IsOk, OnOk, IfOk, None, Some};
 ghost use Rattle.byte_nfa.specs.Runs.{size, max_reads};
@@ -89,7 +89,7 @@ impl ExtensionMatchers {
         self.slots.is_empty()
     }
 
-    /// Returns the slot of an extension, if it has one. It is one visit.
+    /// Returns the slot of an extension, if there is any. It is a visit.
     pub fn slot_of(&self, extension: &[u8], visits: &mut Visits) -> Option<usize>
         ensures slot { result ≡ slot_of self.now.slots extension.now }
         ensures held { (s : ℕ) → result ≡ Some s → s < length self.now.nfas }
@@ -101,7 +101,7 @@ impl ExtensionMatchers {
         }
     }
 
-    /// Returns the automaton of a slot, or one without states if there is none.
+    /// Returns the automaton of a slot, or an automaton without states if there is none.
     pub fn automaton_at(&self, slot: Option<usize>) -> &Compiled
         requires { (s : ℕ) → slot ≡ Some s → s < length self.now.nfas }
         ensures automaton { result.now ≡ nfa_at self.now slot }
@@ -117,8 +117,7 @@ impl ExtensionMatchers {
         }
     }
 
-    /// Returns caches with no rows for the automata, where runs need one. All memory that they need is taken here. Returns an
-    /// error if memory runs out.
+    /// Returns caches with no rows for the automata that need any. Runs with them allocate nothing for rows.
     pub fn new_caches(&self, alloc: Global) -> Result<SlotCaches, AllocError>
         ensures { IfOk result (λ caches. AreSlotCaches self.now.nfas self.now.none caches) }
     {
@@ -146,8 +145,8 @@ impl ExtensionMatchers {
 impl ExtensionMatchers {
     /// Returns whether tokens of some extension match a text that begins with `text` and then `byte`.
     ///
-    /// It is at most `(text bytes + 2) * (states + 3 * starts)` visits of each automaton. The runs use the same sets of states, one
-    /// after another. The sets get room for each state of an automaton that is stepped. Returns an error if memory runs out.
+    /// It is at most `(text bytes + 2) * (states + 3 * starts)` visits of each automaton. The runs use the same sets of states in
+    /// turn. The sets get room for each state of an automaton that is stepped.
     pub fn can_match_after(
         &self,
         text: &[u8],
@@ -221,8 +220,7 @@ impl ExtensionMatchersBuilder {
         self.index_count
     }
 
-    /// Adds the tokens of a glob that matches only paths with one extension. It takes time and memory linear in the tokens.
-    /// Returns an error if memory runs out.
+    /// Adds the tokens of a glob that matches only paths with a given extension. It takes time and memory linear in the tokens.
     pub fn add_tokens(
         &mut self,
         alloc: Global,
@@ -293,7 +291,7 @@ impl ExtensionMatchersBuilder {
         states
     }
 
-    /// Returns what was added, whose rows share the room of so many states. Returns an error if memory runs out.
+    /// Returns the automata of the extensions that were added, which share the room for rows by their numbers of states.
     pub fn finish(
         self,
         alloc: Global,

@@ -10,7 +10,7 @@ use std::alloc::{AllocError, Global};
 use std::collections::BTreeMap;
 use std::marker::Model;
 
-/// Extensions and their slots, in the order in which they were added.
+/// Extensions and their slots, in the order of their additions.
 #[derive(Drop)]
 pub struct ExtensionSlots {
     table: TableBuilder,
@@ -41,7 +41,7 @@ impl ExtensionSlots {
         }
     }
 
-    /// Returns the slot of an extension, if it has one.
+    /// Returns the slot of an extension, if there is any.
     pub fn get(&self, extension: &[u8]) -> Option<usize>
         ensures { result ≡ slot_of self.now extension.now }
     {
@@ -50,7 +50,7 @@ impl ExtensionSlots {
 
     /// Adds the slot of an extension that has none.
     ///
-    /// Returns an error if memory runs out. Then there are no slots.
+    /// Then there are no slots.
     pub fn insert(
         &mut self,
         alloc: Global,
@@ -71,7 +71,7 @@ impl ExtensionSlots {
         Ok(())
     }
 
-    /// Returns the table of the slots. Returns an error if memory runs out.
+    /// Returns the table of the slots.
     pub fn build(self) -> Result<Table, AllocError>
         ensures { IfOk result (λ table. table ≡ self) }
     {
