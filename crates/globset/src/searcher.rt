@@ -132,7 +132,7 @@ impl Searcher {
             return false;
         };
         matcher
-            .is_match(path, &mut self.scratch, &mut self.caches, visits)
+            .is_match(path, &mut self.scratch.sets, &mut self.caches, visits)
             .unwrap()
     }
 
@@ -263,7 +263,7 @@ impl Searcher {
             return false;
         };
         matcher
-            .can_match_below(folder.path(), &mut self.scratch, &mut self.caches, visits)
+            .can_match_below(folder.path(), &mut self.scratch.sets, &mut self.caches, visits)
             .unwrap()
     }
 }

@@ -21,6 +21,7 @@ use glob_path::{LiteralIndex, LiteralIndexBuilder};
 use glob_strategy::{MatchStrategy, strategy_of, tokens_after_prefix, tokens_before_ending};
 use glob_syntax::{Options, Token};
 use glob_text::GivenGlobs;
+use lazy_dfa::StateSets;
 use std::alloc::{AllocError, Global};
 use std::marker::Model;
 use std::sync::Arc;
@@ -84,6 +85,11 @@ impl SetMatcher {
         if let Some(automata) = &self.automata {
             automata.keep_caches();
         }
+    }
+
+    /// Returns sets of states without room, to ask whether globs match. It allocates nothing.
+    pub fn new_sets(&self) -> StateSets {
+        StateSets::new(self.alloc)
     }
 
     /// Returns a scratch without room, to match with. It allocates nothing.

@@ -3,6 +3,7 @@
 ghost use Rattle.std.specs.Prelude.{◌≡◌, ◌≢◌, ◌+◌, ◌≤◌, ◌↔◌, [], IfOk, IsOk, OnOk, OnErr, IsTrue, length, vec_capacity};
 ghost use Rattle.bit_sets.specs.Texts.{AllBytes};
 ghost use Rattle.glob_matching.specs.ScratchValue.{HasCapacity};
+ghost use Rattle.lazy_dfa.specs.Sets.{sets_capacity};
 ghost use Rattle.set_matcher.specs.Answer.{matching_indexes};
 ghost use Rattle.set_matcher.specs.Below.{MatchesBelow};
 ghost use Rattle.set_matcher.specs.Indexes.{ContainsAllBelow};
@@ -15,6 +16,7 @@ use crate::matcher::SetMatcher;
 use bit_sets::Visits;
 use glob_matching::Scratch;
 use glob_path::{Candidate, PathParts};
+use lazy_dfa::StateSets;
 use std::alloc::AllocError;
 
 impl SetMatcher {
@@ -70,12 +72,12 @@ impl SetMatcher {
 
     /// Returns whether some glob that is not excluded matches the path.
     ///
-    /// The scratch gets room for each state of an automaton that is stepped. It allocates nothing if it has that room, or if no
-    /// glob needs an automaton for the path.
+    /// The sets get room for each state of an automaton that is stepped. It allocates nothing if they have that room, or if no glob
+    /// needs an automaton for the path.
     pub fn is_match(
         &self,
         path: &Candidate<'_>,
-        scratch: &mut Scratch,
+        sets: &mut StateSets,
         caches: &mut Caches,
         visits: &mut Visits,
     ) -> Result<bool, AllocError>
@@ -83,9 +85,8 @@ impl SetMatcher {
         ensures caches { caches.new ≡ caches.old }
         ensures some { IfOk result
             (λ yes. IsTrue yes ↔ (matching_indexes (set_globs self.now.set) path.now ≢ [])) }
-        ensures kept { scratch.new ≡ scratch.old }
-        ensures room { HasCapacity scratch.old (set_states self.now.set)
-            (length (set_globs self.now.set)) → IsOk result }
+        ensures kept { sets_capacity sets.old ≤ sets_capacity sets.new }
+        ensures room { set_states self.now.set ≤ sets_capacity sets.old → IsOk result }
         ensures memory { load (set_globs self.now.set) path.now ≡ 0 → IsOk result }
         ensures visits { visits.new
             ≤ visits.old + max_set_visits (set_globs self.now.set) path.now }
@@ -96,7 +97,7 @@ impl SetMatcher {
             return Ok(true);
         }
         match &self.automata {
-            Some(automata) => automata.is_match(&parts, &mut scratch.sets, caches, visits),
+            Some(automata) => automata.is_match(&parts, sets, caches, visits),
             None => Ok(false),
         }
     }
@@ -139,12 +140,12 @@ impl SetMatcher {
 
     /// Returns whether some glob that is not excluded matches some path below a folder: the folder, a `/`, and any bytes, perhaps none.
     ///
-    /// The scratch gets room for each state of an automaton that is stepped. It allocates nothing if it has that room, or if each
+    /// The sets get room for each state of an automaton that is stepped. It allocates nothing if they have that room, or if each
     /// glob is direct.
     pub fn can_match_below(
         &self,
         folder: &[u8],
-        scratch: &mut Scratch,
+        sets: &mut StateSets,
         caches: &mut Caches,
         visits: &mut Visits,
     ) -> Result<bool, AllocError>
@@ -152,9 +153,8 @@ impl SetMatcher {
         ensures caches { caches.new ≡ caches.old }
         ensures some { IfOk result
             (λ yes. IsTrue yes ↔ MatchesBelow (set_globs self.now.set) folder.now) }
-        ensures kept { scratch.new ≡ scratch.old }
-        ensures room { HasCapacity scratch.old (set_states self.now.set)
-            (length (set_globs self.now.set)) → IsOk result }
+        ensures kept { sets_capacity sets.old ≤ sets_capacity sets.new }
+        ensures room { set_states self.now.set ≤ sets_capacity sets.old → IsOk result }
         ensures memory { load_below (set_globs self.now.set) ≡ 0 → IsOk result }
         ensures visits { visits.new
             ≤ visits.old + max_set_visits_below (set_globs self.now.set) folder.now }
@@ -165,7 +165,7 @@ impl SetMatcher {
         }
         match &self.automata {
             Some(automata) => {
-                automata.can_match_below(folder, &mut scratch.sets, caches, visits)
+                automata.can_match_below(folder, sets, caches, visits)
             }
             None => Ok(false),
         }

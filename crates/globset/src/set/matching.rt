@@ -218,7 +218,7 @@ impl GlobSet {
         };
         Ok(matcher.is_match(
             path,
-            &mut matcher.new_scratch(),
+            &mut matcher.new_sets(),
             &mut Caches::none(),
             visits,
         )?)
@@ -244,7 +244,7 @@ impl GlobSet {
             return false;
         };
         matcher
-            .is_match(path, scratch, &mut Caches::none(), visits)
+            .is_match(path, &mut scratch.sets, &mut Caches::none(), visits)
             .unwrap()
     }
 
@@ -418,7 +418,7 @@ impl GlobSet {
         };
         Ok(matcher.can_match_below(
             folder.path(),
-            &mut matcher.new_scratch(),
+            &mut matcher.new_sets(),
             &mut Caches::none(),
             visits,
         )?)
@@ -457,7 +457,7 @@ impl GlobSet {
             return false;
         };
         matcher
-            .can_match_below(folder.path(), scratch, &mut Caches::none(), visits)
+            .can_match_below(folder.path(), &mut scratch.sets, &mut Caches::none(), visits)
             .unwrap()
     }
 }
