@@ -120,105 +120,13 @@ impl Compiled {
 }
 
 impl Compiled {
-    /// Puts the indexes of the tokens that match a text into a set, next to its contents.
+    /// Puts the indexes of the tokens that match a text into a set, next to its contents. It runs by the rows of the cache if there
+    /// is one, and else by rows that are kept, or stepped.
     ///
     /// It is at most `(text bytes + 1) * (states + 3 * starts)` visits. The old contents of the sets of states have no effect. If
     /// the automaton is stepped, their room grows to its states. It allocates nothing if they have room for all states. After an
     /// error some of the indexes may be in the set.
     pub fn find(
-        &self,
-        text: &[u8],
-        sets: &mut StateSets,
-        found: &mut IndexSet,
-        visits: &mut Visits,
-    ) -> Result<(), AllocError>
-        requires { self.now.index_count ≤ index_capacity found.old }
-        ensures room { index_capacity found.new ≡ index_capacity found.old }
-        ensures found { OnOk result (AddsMatches self.now text.now found.old found.new) }
-        ensures kept { sets_capacity sets.old ≤ sets_capacity sets.new }
-        ensures memory { size self.now ≤ sets_capacity sets.old → IsOk result }
-        ensures visits { visits.new ≤ visits.old + (length text.now + 1) * max_reads self.now }
-        ensures counted { visits.old ≤ visits.new }
-    {
-        if self.leads_to_none(text, visits) {
-            return Ok(());
-        }
-        if let Some(rows) = &self.rows {
-            if rows.find(text, self.may_take_memory(sets), found, visits) {
-                return Ok(());
-            }
-        }
-        self.dfa.find(text, sets, found, visits)
-    }
-
-    /// Returns whether tokens match a text.
-    ///
-    /// It is at most `(text bytes + 1) * (states + 3 * starts)` visits. The old contents of the sets of states have no effect. If
-    /// the automaton is stepped, their room grows to its states. It allocates nothing if they have room for all states.
-    pub fn is_match(
-        &self,
-        text: &[u8],
-        sets: &mut StateSets,
-        visits: &mut Visits,
-    ) -> Result<bool, AllocError>
-        ensures some { IfOk result (λ yes. TellsMatch self.now text.now yes) }
-        ensures kept { sets_capacity sets.old ≤ sets_capacity sets.new }
-        ensures memory { size self.now ≤ sets_capacity sets.old → IsOk result }
-        ensures visits { visits.new ≤ visits.old + (length text.now + 1) * max_reads self.now }
-        ensures counted { visits.old ≤ visits.new }
-    {
-        if self.leads_to_none(text, visits) {
-            return Ok(false);
-        }
-        if let Some(rows) = &self.rows {
-            if let Some(is_match) = rows.is_match(text, self.may_take_memory(sets), visits) {
-                return Ok(is_match);
-            }
-        }
-        self.dfa.is_match(text, sets, visits)
-    }
-
-    /// Returns whether some tokens match a text that begins with `text` and then `byte`.
-    ///
-    /// It is at most `(text bytes + 2) * (states + 3 * starts)` visits. The old contents of the sets of states have no effect. If
-    /// the automaton is stepped, their room grows to its states. It allocates nothing if they have room for all states.
-    pub fn can_match_after(
-        &self,
-        text: &[u8],
-        byte: u8,
-        sets: &mut StateSets,
-        visits: &mut Visits,
-    ) -> Result<bool, AllocError>
-        ensures some { IfOk result
-            (λ yes. (xs : List IndexedTokens) → IsFor self.now xs
-            → IsTrue yes ↔ SomeMeanAfter xs (text.now ++ byte ∷ [])) }
-        ensures kept { sets_capacity sets.old ≤ sets_capacity sets.new }
-        ensures memory { size self.now ≤ sets_capacity sets.old → IsOk result }
-        ensures visits { visits.new ≤ visits.old + (length text.now + 2) * max_reads self.now }
-        ensures counted { visits.old ≤ visits.new }
-    {
-        if !self.dfa.has_starts() {
-            return Ok(false);
-        }
-        if let Some(rows) = &self.rows {
-            if let Some(can_match) = rows.can_match_after(
-                text,
-                byte,
-                self.may_take_memory(sets),
-                visits,
-            ) {
-                return Ok(can_match);
-            }
-        }
-        self.dfa.can_match_after(text, byte, sets, visits)
-    }
-}
-
-impl Compiled {
-    /// Like [`Compiled::find`], by the rows of a cache if there is any.
-    ///
-    /// It takes memory, and so returns an error if it runs out, only if the sets of states have no room for all states.
-    pub fn find_with(
         &self,
         text: &[u8],
         sets: &mut StateSets,
@@ -236,19 +144,25 @@ impl Compiled {
         ensures visits { visits.new ≤ visits.old + (length text.now + 1) * max_reads self.now }
         ensures counted { visits.old ≤ visits.new }
     {
-        let Some(rows) = cache else {
-            return self.find(text, sets, found, visits);
-        };
-        if !self.leads_to_none(text, visits) {
-            rows.find(text, found, visits);
+        if self.leads_to_none(text, visits) {
+            return Ok(());
         }
-        Ok(())
+        if let Some(cache) = cache {
+            cache.find(text, found, visits);
+            return Ok(());
+        }
+        if let Some(rows) = &self.rows {
+            if rows.find(text, self.may_take_memory(sets), found, visits) {
+                return Ok(());
+            }
+        }
+        self.dfa.find(text, sets, found, visits)
     }
 
-    /// Like [`Compiled::is_match`], by the rows of a cache if there is any.
+    /// Returns whether tokens match a text.
     ///
-    /// It takes memory, and so returns an error if it runs out, only if the sets of states have no room for all states.
-    pub fn is_match_with(
+    /// What is said of the memory and the visits of [`Compiled::find`] holds for it.
+    pub fn is_match(
         &self,
         text: &[u8],
         sets: &mut StateSets,
@@ -263,19 +177,25 @@ impl Compiled {
         ensures visits { visits.new ≤ visits.old + (length text.now + 1) * max_reads self.now }
         ensures counted { visits.old ≤ visits.new }
     {
-        let Some(rows) = cache else {
-            return self.is_match(text, sets, visits);
-        };
         if self.leads_to_none(text, visits) {
             return Ok(false);
         }
-        Ok(rows.is_match(text, visits))
+        if let Some(cache) = cache {
+            return Ok(cache.is_match(text, visits));
+        }
+        if let Some(rows) = &self.rows {
+            if let Some(is_match) = rows.is_match(text, self.may_take_memory(sets), visits) {
+                return Ok(is_match);
+            }
+        }
+        self.dfa.is_match(text, sets, visits)
     }
 
-    /// Like [`Compiled::can_match_after`], by the rows of a cache if there is any.
+    /// Returns whether some tokens match a text that begins with `text` and then `byte`.
     ///
-    /// It takes memory, and so returns an error if it runs out, only if the sets of states have no room for all states.
-    pub fn can_match_after_with(
+    /// It is at most `(text bytes + 2) * (states + 3 * starts)` visits. What is said of the memory of [`Compiled::find`] holds for
+    /// it.
+    pub fn can_match_after(
         &self,
         text: &[u8],
         byte: u8,
@@ -293,12 +213,18 @@ impl Compiled {
         ensures visits { visits.new ≤ visits.old + (length text.now + 2) * max_reads self.now }
         ensures counted { visits.old ≤ visits.new }
     {
-        let Some(rows) = cache else {
-            return self.can_match_after(text, byte, sets, visits);
-        };
         if !self.dfa.has_starts() {
             return Ok(false);
         }
-        Ok(rows.can_match_after(text, byte, visits))
+        if let Some(cache) = cache {
+            return Ok(cache.can_match_after(text, byte, visits));
+        }
+        if let Some(rows) = &self.rows {
+            let may_make = self.may_take_memory(sets);
+            if let Some(can_match) = rows.can_match_after(text, byte, may_make, visits) {
+                return Ok(can_match);
+            }
+        }
+        self.dfa.can_match_after(text, byte, sets, visits)
     }
 }

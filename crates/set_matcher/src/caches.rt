@@ -191,7 +191,7 @@ impl SlotCaches {
         matches_part(part, automaton, path, sets, &mut None, visits)
     }
 
-    /// Like [`Compiled::can_match_after_with`], with the cache of the automaton's slot.
+    /// Like [`Compiled::can_match_after`], with the cache of the automaton's slot.
     pub fn can_match_after(
         &mut self,
         slot: usize,
@@ -214,9 +214,9 @@ impl SlotCaches {
         if let Some(caches) = &mut self.caches {
             if slot < caches.len() {
                 let cache = &mut caches[slot];
-                return automaton.can_match_after_with(text, byte, sets, cache, visits);
+                return automaton.can_match_after(text, byte, sets, cache, visits);
             }
         }
-        automaton.can_match_after(text, byte, sets, visits)
+        automaton.can_match_after(text, byte, sets, &mut None, visits)
     }
 }

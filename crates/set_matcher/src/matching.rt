@@ -164,9 +164,7 @@ impl SetMatcher {
             return Ok(true);
         }
         match &self.automata {
-            Some(automata) => {
-                automata.can_match_below(folder, sets, caches, visits)
-            }
+            Some(automata) => { automata.can_match_below(folder, sets, caches, visits) }
             None => Ok(false),
         }
     }

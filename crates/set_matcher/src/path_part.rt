@@ -65,7 +65,7 @@ pub fn run(
         return Ok(());
     }
     let text = part.of(path);
-    automaton.find_with(text, sets, cache, marks, visits)
+    automaton.find(text, sets, cache, marks, visits)
 }
 
 /// Returns whether a part of the path matches tokens. The part is only searched for if there are states.
@@ -91,7 +91,7 @@ pub fn matches_part(
         return Ok(false);
     }
     let text = part.of(path);
-    automaton.is_match_with(text, sets, cache, visits)
+    automaton.is_match(text, sets, cache, visits)
 }
 
 /// Returns the bytes of a path before the extension of its last component.

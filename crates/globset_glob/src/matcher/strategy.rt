@@ -106,7 +106,7 @@ impl Strategy {
                 Ok(key.matches(path))
             }
             Strategy::Automaton(automaton) => {
-                automaton.is_match_with(path.path(), sets, cache, visits)
+                automaton.is_match(path.path(), sets, cache, visits)
             }
         }
     }
@@ -137,7 +137,7 @@ impl Strategy {
                 Ok(key.can_match_below(folder.path()))
             }
             Strategy::Automaton(automaton) => {
-                automaton.can_match_after_with(folder.path(), b'/', sets, cache, visits)
+                automaton.can_match_after(folder.path(), b'/', sets, cache, visits)
             }
         }
     }

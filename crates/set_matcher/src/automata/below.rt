@@ -43,7 +43,7 @@ impl Automata {
         let cache = &mut caches.by_path;
         if self
             .by_path
-            .can_match_after_with(folder, b'/', sets, cache, visits)?
+            .can_match_after(folder, b'/', sets, cache, visits)?
         {
             return Ok(true);
         }

@@ -17,8 +17,8 @@ returns-then-state_count-eq0-clause-some c = λ xs is.
     )
 
 pub returns-clause-some : goal.returns-clause-some
-returns-clause-some c = subst (λ text. IfOk c.is_match_with.result (TellsMatch c.args.automaton.now text)) c.of-text.ensures c.is_match_with.ensures.some
+returns-clause-some c = subst (λ text. IfOk c.is_match.result (TellsMatch c.args.automaton.now text)) c.of-text.ensures c.is_match.ensures.some
 
 pub returns-clause-visits : goal.returns-clause-visits
 returns-clause-visits c =
-    part_visits c.args.part c.args.path.now c.of-text.result.now (max_reads c.args.automaton.now) c.args.visits.now c.is_match_with.new.visits c.of-text.ensures c.is_match_with.ensures.visits
+    part_visits c.args.part c.args.path.now c.of-text.result.now (max_reads c.args.automaton.now) c.args.visits.now c.is_match.new.visits c.of-text.ensures c.is_match.ensures.visits

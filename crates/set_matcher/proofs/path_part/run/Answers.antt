@@ -20,8 +20,8 @@ returns-then-state_count-eq0-clause-found c = λ xs is k.
 
 pub returns-clause-found : goal.returns-clause-found
 returns-clause-found c =
-    subst (λ text. OnOk c.find_with.result (AddsMatches c.args.automaton.now text c.args.marks.now c.find_with.new.found)) c.of-text.ensures c.find_with.ensures.found
+    subst (λ text. OnOk c.find.result (AddsMatches c.args.automaton.now text c.args.marks.now c.find.new.found)) c.of-text.ensures c.find.ensures.found
 
 pub returns-clause-visits : goal.returns-clause-visits
 returns-clause-visits c =
-    part_visits c.args.part c.args.path.now c.of-text.result.now (max_reads c.args.automaton.now) c.args.visits.now c.find_with.new.visits c.of-text.ensures c.find_with.ensures.visits
+    part_visits c.args.part c.args.path.now c.of-text.result.now (max_reads c.args.automaton.now) c.args.visits.now c.find.new.visits c.of-text.ensures c.find.ensures.visits

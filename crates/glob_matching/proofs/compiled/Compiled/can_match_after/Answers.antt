@@ -23,6 +23,13 @@ returns-then-not-has_starts-clause-some c =
     λ xs for. after_matches m xs c.args.text.now c.args.byte (λ i. omega (arith, c.type_inv.text i)) (omega arith)
     (never_after m (subst (λ (x : NfaValue). (y : List ℕ) (k : ℕ) → IsReached x y k → ⊥) is (c.has_starts.ensures.none c.if-not-has_starts.true)) c.args.text.now c.args.byte) for
 
+pub returns-in-Some-clause-some : goal.returns-in-Some-clause-some
+returns-in-Some-clause-some c =
+    let m = c.args.self.now in
+    let made_for : c.in-Some.cache ≡ m = subst (λ (o : Option NfaValue). IfSome o (λ r. r ≡ m)) c.in-Some.is c.requires in
+    λ xs is. after_matches m xs c.args.text.now c.args.byte (λ i. omega (arith, c.type_inv.text i)) (omega arith)
+    (subst (λ (x : NfaValue). IsTrue c.can_match_after.result ↔ MatchesAfter x (c.args.text.now ++ c.args.byte ∷ [])) made_for c.can_match_after.ensures.some) is
+
 pub returns-clause-some : goal.returns-clause-some
 returns-clause-some c =
     let m = c.args.self.now in

@@ -22,6 +22,14 @@ returns-then-leads_to_none-clause-found c =
     adds_matches c.args.self.now c.args.text.now c.args.found.now c.args.found.now (λ i. omega (arith, c.type_inv.text i))
     (none_added c.args.self.now c.args.text.now c.args.found.now (c.leads_to_none.ensures.none c.if-leads_to_none.true))
 
+pub returns-in-Some-clause-found : goal.returns-in-Some-clause-found
+returns-in-Some-clause-found c =
+    let m = c.args.self.now in
+    let made_for : c.in-Some.cache ≡ m = subst (λ (o : Option NfaValue). IfSome o (λ r. r ≡ m)) c.in-Some.is c.requires.cache in
+    let after = c.find.new.found in
+    adds_matches m c.args.text.now c.args.found.now after (λ i. omega (arith, c.type_inv.text i))
+    (subst (λ (x : NfaValue). AddsReached x c.args.text.now c.args.found.now after) made_for c.find.ensures.found)
+
 pub returns-clause-found : goal.returns-clause-found
 returns-clause-found c =
     let m = c.args.self.now in

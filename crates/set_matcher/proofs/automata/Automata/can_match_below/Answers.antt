@@ -15,7 +15,7 @@ returns-then-self-clause-some c = λ t are.
 pub returns-then-branch-clause-some : goal.returns-then-branch-clause-some
 returns-then-branch-clause-some c = λ t are.
     let inside = subst (λ (a : AutomataParts). AreForLists a t) (sym c.self.view_is) are in
-    (λ yes. inr (inl ((c.in_ok-can_match_after_with.ensures.some t.by_path inside.path).0 c.if-branch.true)), λ found. refl)
+    (λ yes. inr (inl ((c.in_ok-can_match_after.ensures.some t.by_path inside.path).0 c.if-branch.true)), λ found. refl)
 
 pub returns-clause-some : goal.returns-clause-some
 returns-clause-some c =
@@ -28,7 +28,7 @@ returns-clause-some c =
     subst (λ (a : AutomataParts). IsTrue yes ↔ AreFoundBelow a.extensions t folder) c.self.view_is
     (last_of_three
     (λ found. true≢false (sym (c.self.invariant.component.1 ((some_text c.self.inside.by_component t.by_component inside.component).1 found)) ∙ c.if-self.false))
-    (λ found. true≢false (sym ((c.in_ok-can_match_after_with.ensures.some t.by_path inside.path).1 found) ∙ c.if-branch.false))
+    (λ found. true≢false (sym ((c.in_ok-can_match_after.ensures.some t.by_path inside.path).1 found) ∙ c.if-branch.false))
     (tells t.by_slot inside.matchers)))
     c.can_match_after.ensures.some
 

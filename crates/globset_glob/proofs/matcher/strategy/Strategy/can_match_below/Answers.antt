@@ -23,9 +23,9 @@ returns-in-Key-clause-visits c = λ g is. omega (arith, c.tick.ensures, one_visi
 
 pub returns-in-Automaton-clause-some : goal.returns-in-Automaton-clause-some
 returns-in-Automaton-clause-some c =
-    IfOk-weaker c.can_match_after_with.result _ _ (λ yes some g is.
+    IfOk-weaker c.can_match_after.result _ _ (λ yes some g is.
     let strategy = subst (λ m. IsAutomatonOf g m) (sym c.deref.ensures) (subst (λ (f : Strategy). IsStrategyOfMatcher g f) c.in-Automaton.is is) in
-    subst (λ p. IsTrue yes ↔ GlobMatchesBelow g p) c.path-in-Automaton.ensures (one_matches_below g c.path-in-Automaton.result.now yes (some (indexed g.options (tokens_of_glob g) 0 ∷ []) strategy.tokens))) c.can_match_after_with.ensures.some
+    subst (λ p. IsTrue yes ↔ GlobMatchesBelow g p) c.path-in-Automaton.ensures (one_matches_below g c.path-in-Automaton.result.now yes (some (indexed g.options (tokens_of_glob g) 0 ∷ []) strategy.tokens))) c.can_match_after.ensures.some
 
 pub returns-in-Automaton-clause-visits : goal.returns-in-Automaton-clause-visits
 returns-in-Automaton-clause-visits c = λ g is.
@@ -33,4 +33,4 @@ returns-in-Automaton-clause-visits c = λ g is.
     let positions = length c.path-in-Automaton.result.now + 2 in
     let few : max_reads c.deref.result.now ≤ cost g = omega (arith, strategy.reads) in
     let all : positions * max_reads c.deref.result.now ≤ positions * cost g = mul-le-mul_left positions few in
-    omega (arith, c.can_match_after_with.ensures.visits, all, ap (λ p. (length p + 2) * cost g) c.path-in-Automaton.ensures)
+    omega (arith, c.can_match_after.ensures.visits, all, ap (λ p. (length p + 2) * cost g) c.path-in-Automaton.ensures)

@@ -20,13 +20,13 @@ returns-in-Key-clause-visits c = λ g is. omega (arith, c.tick.ensures, one_visi
 
 pub returns-in-Automaton-clause-some : goal.returns-in-Automaton-clause-some
 returns-in-Automaton-clause-some c =
-    IfOk-weaker c.is_match_with.result _ _ (λ yes some g is.
+    IfOk-weaker c.is_match.result _ _ (λ yes some g is.
     let strategy = subst (λ m. IsAutomatonOf g m) (sym c.deref.ensures) (subst (λ (f : Strategy). IsStrategyOfMatcher g f) c.in-Automaton.is is) in
-    one_matches g c.path.result.now yes (some (indexed g.options (tokens_of_glob g) 0 ∷ []) strategy.tokens) ∙ ap (λ p. glob_matches g p) c.path.ensures) c.is_match_with.ensures.some
+    one_matches g c.path.result.now yes (some (indexed g.options (tokens_of_glob g) 0 ∷ []) strategy.tokens) ∙ ap (λ p. glob_matches g p) c.path.ensures) c.is_match.ensures.some
 
 pub returns-in-Automaton-clause-visits : goal.returns-in-Automaton-clause-visits
 returns-in-Automaton-clause-visits c = λ g is.
     let strategy = subst (λ m. IsAutomatonOf g m) (sym c.deref.ensures) (subst (λ (f : Strategy). IsStrategyOfMatcher g f) c.in-Automaton.is is) in
     let positions = length c.path.result.now + 1 in
     let all : positions * max_reads c.deref.result.now ≤ positions * cost g = mul-le-mul_left positions strategy.reads in
-    omega (arith, c.is_match_with.ensures.visits, all, ap (λ p. (length p + 1) * cost g) c.path.ensures)
+    omega (arith, c.is_match.ensures.visits, all, ap (λ p. (length p + 1) * cost g) c.path.ensures)
