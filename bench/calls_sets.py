@@ -1,4 +1,4 @@
-"""The sets of globs and the paths that `bench/calls` measures with. Where nothing is said of it, they are made from fixed seeds."""
+"""The sets of globs and the paths of `bench/calls`. They are made from fixed seeds, unless a comment says otherwise."""
 
 import random
 import re

@@ -1,7 +1,8 @@
-"""Globs, and letters for paths, such that the rows of a searcher's cache are looked for at one place of its table.
+"""Globs, and letters for paths, whose rows in a searcher's cache are looked up at one place of its table.
 
-A row is found by the hash of the list of its states (`lazy_dfa`). The hasher is that of `colliding_keys`, so whoever chooses globs and
-paths can choose the hashes, but for the seeds that follow when rows are forgotten. What is said here of states and of places is what `glob_strategy`, `byte_nfa` and `lazy_dfa` make.
+A row is found by the hash of its list of states (`lazy_dfa`). The hasher is that of `colliding_keys`, so whoever chooses globs
+and paths can choose the hashes, except under the seeds that are used once rows were forgotten. The numbers of states and places
+here are those that `glob_strategy`, `byte_nfa` and `lazy_dfa` make.
 """
 
 import functools

@@ -1,4 +1,4 @@
-"""Charts of results that `large` has stored: its tables are read again, and drawn by matplotlib."""
+"""Charts of stored results of `large`: reads its tables, and draws them by matplotlib."""
 
 import programs
 

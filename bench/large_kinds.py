@@ -1,4 +1,4 @@
-"""Kinds of globs that large repositories have, and globs that are made to be slow. All are made from fixed seeds."""
+"""Kinds of globs that large repositories have, and hostile globs. All are made from fixed seeds."""
 
 import random
 

@@ -1,4 +1,4 @@
-"""What the commands of this folder share: rows of tables, and what it costs to start a program and to match a path."""
+"""What the commands of this directory share: rows of tables, and the time to start a program and to match a path."""
 
 import datetime
 import os
