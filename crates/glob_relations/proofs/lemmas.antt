@@ -6,3 +6,4 @@ pub mod Equal
 pub mod Rows
 pub mod Walks
 pub mod Automata
+pub mod Unused

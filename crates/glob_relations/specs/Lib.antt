@@ -1,3 +1,5 @@
 pub mod Domains
+pub mod Shortest
 pub mod Answers
+pub mod Unused
 pub mod inner
