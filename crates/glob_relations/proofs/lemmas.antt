@@ -7,3 +7,4 @@ pub mod Rows
 pub mod Walks
 pub mod Automata
 pub mod Unused
+pub mod Laws

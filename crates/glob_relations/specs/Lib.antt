@@ -2,4 +2,5 @@ pub mod Domains
 pub mod Shortest
 pub mod Answers
 pub mod Unused
+pub mod Laws
 pub mod inner

@@ -17,6 +17,7 @@
 
 mod classes;
 mod domain;
+pub mod laws;
 mod pass;
 mod relations;
 mod rows;
