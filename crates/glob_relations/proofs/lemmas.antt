@@ -8,3 +8,4 @@ pub mod Walks
 pub mod Automata
 pub mod Unused
 pub mod Laws
+pub mod Leading

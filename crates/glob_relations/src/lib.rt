@@ -18,6 +18,7 @@
 mod classes;
 mod domain;
 pub mod laws;
+mod leading;
 mod pass;
 mod relations;
 mod rows;

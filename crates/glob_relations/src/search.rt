@@ -6,11 +6,13 @@ ghost use Rattle.bit_sets.specs.Numbers.{AreBelow};
 ghost use Rattle.bit_sets.specs.StateSets.{state_capacity};
 ghost use Rattle.byte_nfa.specs.Runs.{size};
 ghost use Rattle.glob_relations.specs.inner.Rows.{AreRepresentatives, AreRows, AreStates, AreDone, GoesTo, CameBefore, HasRow, IsFollowed, IsFollowedBy, KeepsRows, TellsSearch, WantsRow};
+ghost use Rattle.glob_relations.specs.inner.Leading.{AreLeading};
 ghost use Rattle.glob_relations.specs.inner.Memory.{HasRoom};
 ghost use Rattle.glob_relations.specs.inner.Places.{place_after};
 
 use crate::classes::representatives;
 use crate::domain::Domain;
+use crate::leading::{has_leading, leading};
 use crate::pass::{is_wanted, states_of, step};
 use crate::rows::{Origin, Row, Rows};
 use bit_sets::{IndexSet, StateSet};
@@ -37,6 +39,7 @@ pub struct Memory {
 }
 
 impl Memory {
+    ghost use Rattle.glob_relations.specs.inner.Leading.{AreLeading};
     ghost use Rattle.glob_relations.specs.inner.Memory.{HasRoom};
 
     /// Returns memory for an automaton.
@@ -61,10 +64,12 @@ pub fn search(
     domain: Domain,
     limit: usize,
 ) -> Result<Answer, AllocError>
+    requires { 0 < required }
     ensures { IfOk result (TellsSearch automaton.now required domain limit) }
 {
     let mut memory = Memory::new(alloc, automaton)?;
     let bytes = representatives(alloc, automaton)?;
+    let leading = leading(alloc, automaton, 0)?;
     let mut rows = first_rows(alloc, automaton, domain, &mut memory)?;
     let mut next = 0;
     while next < rows.len() {
@@ -81,6 +86,7 @@ pub fn search(
             required,
             domain,
             &bytes,
+            &leading,
             &mut rows,
             next,
             &mut memory,
@@ -164,6 +170,7 @@ fn expand(
     required: usize,
     domain: Domain,
     bytes: &[u8],
+    leading: &[bool],
     rows: &mut Rows,
     number: usize,
     memory: &mut Memory,
@@ -172,6 +179,8 @@ fn expand(
     requires rows { AreRows automaton.now domain rows.old }
     requires number { number < length rows.old.seen.keys }
     requires before { CameBefore rows.old (number + 1) }
+    requires required { 0 < required }
+    requires leading { AreLeading automaton.now 0 leading.now }
     requires bytes { AreRepresentatives automaton.now bytes.now }
     ensures room { HasRoom automaton.now memory.new }
     ensures rows { OnOk result (AreRows automaton.now domain rows.new) }
@@ -181,18 +190,19 @@ fn expand(
 {
     for byte in bytes {
         add_next(
-            alloc, automaton, required, domain, rows, number, *byte, memory,
+            alloc, automaton, required, domain, leading, rows, number, *byte, memory,
         )?;
     }
     Ok(())
 }
 
-/// Adds the row that a byte leads to from a row, unless it is there.
+/// Adds the row that a byte leads to from a row, unless it is there, or no text leads from it to an end of the index 0.
 fn add_next(
     alloc: Global,
     automaton: &Nfa,
     required: usize,
     domain: Domain,
+    leading: &[bool],
     rows: &mut Rows,
     number: usize,
     byte: u8,
@@ -202,6 +212,8 @@ fn add_next(
     requires rows { AreRows automaton.now domain rows.old }
     requires number { number < length rows.old.seen.keys }
     requires before { CameBefore rows.old (number + 1) }
+    requires required { 0 < required }
+    requires leading { AreLeading automaton.now 0 leading.now }
     ensures room { HasRoom automaton.now memory.new }
     ensures rows { OnOk result (AreRows automaton.now domain rows.new) }
     ensures before { OnOk result (CameBefore rows.new (number + 1)) }
@@ -211,7 +223,9 @@ fn add_next(
     let _domain = domain;
     let _required = required;
     if let Some(row) = next_row(alloc, automaton, rows.row(number), byte, memory)? {
-        rows.add(row, Origin { row: number, byte })?;
+        if has_leading(leading, &row.states) {
+            rows.add(row, Origin { row: number, byte })?;
+        }
     }
     Ok(())
 }
