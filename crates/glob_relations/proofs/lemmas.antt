@@ -6,3 +6,6 @@ pub mod Equal
 pub mod Rows
 pub mod Walks
 pub mod Automata
+pub mod Unused
+pub mod Laws
+pub mod Leading

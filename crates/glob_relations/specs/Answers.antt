@@ -5,6 +5,7 @@ use Rattle.byte_nfa.specs.Steps.{NfaValue}
 use Rattle.glob_strategy.specs.IndexedTokens.{IsFor}
 use Rattle.glob_text.specs.GlobMatches.{GlobValue, glob_matches}
 use Rattle.glob_relations.specs.Domains.{IsIn}
+use Rattle.glob_relations.specs.Shortest.{IsShortest}
 use Rattle.glob_relations.specs.declared.domain.Domain.{Domain}
 use Rattle.glob_relations.specs.declared.relations.Coverage.{Coverage}
 use Rattle.glob_relations.specs.declared.relations.Coverage.TheVariants.{Covered, Not, Unknown}
@@ -21,20 +22,28 @@ some_match gs path = list_any (λ g. glob_matches g path) gs
 abbrev pub IsCovered : GlobValue → List GlobValue → Domain → Type 0
 IsCovered g by domain = (path : List ℕ) → IsIn domain path → IsTrue (glob_matches g path) → IsTrue (some_match by path)
 
--- The answer is right: the glob is covered; or the path is in the domain, and only the glob matches it; or paths lead to more
--- than `limit` different rows of an automaton for the globs.
+-- the path is one of the domain, which the glob matches, and none of the others
+abbrev pub IsMissed : GlobValue → List GlobValue → Domain → List ℕ → Type 0
+IsMissed g by domain path = IsIn domain path × IsTrue (glob_matches g path) × IsFalse (some_match by path)
+
+-- what is told is so: that the glob is covered; or that the path is a shortest one of those that are missed; or that paths lead to more
+-- than `limit` different rows of an automaton for the globs
 abbrev pub TellsCovering : GlobValue → List GlobValue → Domain → ℕ → Coverage → Type 0
 TellsCovering g by domain limit Covered = IsCovered g by domain
-TellsCovering g by domain limit (Not path) = IsIn domain path.items × IsTrue (glob_matches g path.items) × IsFalse (some_match by path.items)
+TellsCovering g by domain limit (Not path) = IsShortest (IsMissed g by domain) path.items
 TellsCovering g by domain limit Unknown = (m : NfaValue) × IsFor m (indexed_glob 0 g ∷ indexed_globs 1 by) × HasMoreRows m domain limit
 
 -- no path of the domain is matched by both globs
 abbrev pub AreDisjoint : GlobValue → GlobValue → Domain → Type 0
 AreDisjoint a b domain = (path : List ℕ) → IsIn domain path → IsTrue (glob_matches a path) → IsTrue (glob_matches b path) → ⊥
 
--- The answer is right: the globs are disjoint; or the path is in the domain, and both match it; or paths lead to more than
--- `limit` different rows of an automaton for the globs.
+-- the path is one of the domain, and both globs match it
+abbrev pub IsShared : GlobValue → GlobValue → Domain → List ℕ → Type 0
+IsShared a b domain path = IsIn domain path × IsTrue (glob_matches a path) × IsTrue (glob_matches b path)
+
+-- what is told is so: that the globs are disjoint; or that the path is a shortest one of those that both match; or that paths lead to
+-- more than `limit` different rows of an automaton for the globs
 abbrev pub TellsOverlap : GlobValue → GlobValue → Domain → ℕ → Intersection → Type 0
 TellsOverlap a b domain limit Disjoint = AreDisjoint a b domain
-TellsOverlap a b domain limit (Both path) = IsIn domain path.items × IsTrue (glob_matches a path.items) × IsTrue (glob_matches b path.items)
+TellsOverlap a b domain limit (Both path) = IsShortest (IsShared a b domain) path.items
 TellsOverlap a b domain limit Undecided = (m : NfaValue) × IsFor m (indexed_glob 0 a ∷ indexed_glob 1 b ∷ []) × HasMoreRows m domain limit

@@ -1,3 +1,6 @@
 pub mod Domains
+pub mod Shortest
 pub mod Answers
+pub mod Unused
+pub mod Laws
 pub mod inner

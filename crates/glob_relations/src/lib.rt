@@ -1,7 +1,8 @@
 //! Containment and disjointness of what globs match: whether each path that a glob matches is matched by some glob of a list,
-//! and whether some path is matched by both of two globs. Each answer that says no, or yes, has a path that shows it.
+//! whether some path is matched by both of two globs, and which globs of a list never decide. Each answer has a path that shows it,
+//! or holds for all paths.
 //!
-//! [`covering`] and [`overlap`] are the calls. A question is about the paths of a [`Domain`].
+//! [`covering`], [`overlap`] and [`unreachable`] are the calls. A question is about the paths of a [`Domain`].
 //!
 //! ```
 //! use glob_relations::{Coverage, Domain, covering};
@@ -14,14 +15,19 @@
 //! ```
 #![tactic(auto)]
 
+mod classes;
 mod domain;
+pub mod laws;
+mod leading;
 mod pass;
 mod relations;
 mod rows;
 mod search;
+mod unused;
 
 pub use domain::Domain;
 pub use relations::{Coverage, Intersection, covering, overlap};
+pub use unused::{Decides, Reachability, unreachable};
 
 #[cfg(test)]
 mod tests;

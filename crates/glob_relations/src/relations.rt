@@ -20,7 +20,7 @@ use std::alloc::{AllocError, Global};
 pub enum Coverage {
     /// Each path of the domain that the glob matches is matched by some of the others.
     Covered,
-    /// This path of the domain is matched by the glob, and by none of the others.
+    /// This path of the domain is matched by the glob, and by none of the others. No shorter path is.
     Not(Vec<u8>),
     /// There are more rows than the limit.
     Unknown,
@@ -31,13 +31,14 @@ pub enum Coverage {
 pub enum Intersection {
     /// No path of the domain is matched by both.
     Disjoint,
-    /// This path of the domain is matched by both.
+    /// This path of the domain is matched by both. No shorter path is.
     Both(Vec<u8>),
     /// There are more rows than the limit.
     Unknown,
 }
 
-/// Returns whether other globs together match each path of a domain that a glob matches, and otherwise a path that they miss.
+/// Returns whether each path of a domain that a glob matches is matched by some of other globs, or else a shortest path that is not.
+/// The path has letters, digits and `/` where other bytes in their place are read alike.
 ///
 /// Globs match here as their matchers do, also those that a set excludes. It returns [`Coverage::Unknown`] if paths lead to more
 /// than `limit` rows. A row is a set of states of the globs, and a place in the domain. Memory is at most linear in the rows,
@@ -57,7 +58,8 @@ pub fn covering(
     Ok(coverage_of(answer))
 }
 
-fn coverage_of(answer: Answer) -> Coverage
+/// Returns what a search says of a glob and those that may cover it.
+pub(crate) fn coverage_of(answer: Answer) -> Coverage
     ensures { result ≡ coverage_of answer }
 {
     match answer {
@@ -67,7 +69,7 @@ fn coverage_of(answer: Answer) -> Coverage
     }
 }
 
-/// Returns whether two globs match no path of a domain in common, or else a path that both match.
+/// Returns whether two globs match no path of a domain in common, or else a shortest path that both match.
 ///
 /// It has the limit and the cost of [`covering`]. Fails only if memory runs out.
 pub fn overlap(
@@ -120,7 +122,12 @@ fn automaton_of_two(alloc: Global, a: &Glob, b: &Glob) -> Result<Nfa, AllocError
 }
 
 /// Adds a glob to an automaton that is being built, under an index.
-fn add(alloc: Global, builder: &mut Builder, glob: &Glob, index: usize) -> Result<(), AllocError>
+pub(crate) fn add(
+    alloc: Global,
+    builder: &mut Builder,
+    glob: &Glob,
+    index: usize,
+) -> Result<(), AllocError>
     requires { index < builder.old.index_count }
     ensures added { OnOk result
         ((xs : List IndexedTokens) → IsFor builder.old xs

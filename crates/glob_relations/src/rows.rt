@@ -32,7 +32,7 @@ pub struct Rows {
 
 impl Rows {
     ghost use Rattle.glob_relations.specs.declared.domain.Domain.{Domain};
-    ghost use Rattle.glob_relations.specs.inner.Rows.{AddsRow, AreDifferent, AreRows, HasRow, WantsRow, WantsFrom};
+    ghost use Rattle.glob_relations.specs.inner.Rows.{AddsRow, AreDifferent, AreRows, HasRow, IsDeep, WantsRow, WantsFrom};
 
     /// Returns no rows. It allocates nothing.
     pub fn new(alloc: Global) -> Rows
@@ -84,6 +84,8 @@ impl Rows {
             → AreRows m domain self.now → HasRow self.now number row → WantsRow m n row []
             → WantsFrom m n domain path.items) }
         ensures bytes { IfOk result (λ path. AllBytes path.items) }
+        ensures length { IfOk result
+            (λ path. (depth : ℕ) → IsDeep self.now depth number → length path.items ≡ depth) }
     {
         let mut path = Vec::new(alloc);
         let mut at = number;

@@ -5,21 +5,24 @@ ghost use Rattle.bit_sets.specs.Indexes.{index_capacity};
 ghost use Rattle.bit_sets.specs.Numbers.{AreBelow};
 ghost use Rattle.bit_sets.specs.StateSets.{state_capacity};
 ghost use Rattle.byte_nfa.specs.Runs.{size};
-ghost use Rattle.glob_relations.specs.inner.Rows.{AreRows, AreStates, AreBoundaries, AreDone, BeginsClass, GoesTo, HasRow, IsFollowed, IsFollowedBy, KeepsRows, TellsSearch, WantsRow};
+ghost use Rattle.glob_relations.specs.inner.Rows.{AreRepresentatives, AreRows, AreStates, AreDone, GoesTo, CameBefore, HasRow, IsFollowed, IsFollowedBy, KeepsRows, TellsSearch, WantsRow};
+ghost use Rattle.glob_relations.specs.inner.Leading.{AreLeading};
 ghost use Rattle.glob_relations.specs.inner.Memory.{HasRoom};
 ghost use Rattle.glob_relations.specs.inner.Places.{place_after};
 
+use crate::classes::representatives;
 use crate::domain::Domain;
+use crate::leading::{has_leading, leading};
 use crate::pass::{is_wanted, states_of, step};
 use crate::rows::{Origin, Row, Rows};
-use bit_sets::{ByteSet, IndexSet, StateSet};
+use bit_sets::{IndexSet, StateSet};
 use byte_nfa::Nfa;
 use std::alloc::{AllocError, Global};
 
 /// The answer of a search.
 #[derive(Drop)]
 pub enum Answer {
-    /// A path that is wanted.
+    /// A shortest path that is wanted.
     Found(Vec<u8>),
     /// No path is wanted.
     Nothing,
@@ -36,6 +39,7 @@ pub struct Memory {
 }
 
 impl Memory {
+    ghost use Rattle.glob_relations.specs.inner.Leading.{AreLeading};
     ghost use Rattle.glob_relations.specs.inner.Memory.{HasRoom};
 
     /// Returns memory for an automaton.
@@ -50,7 +54,7 @@ impl Memory {
     }
 }
 
-/// Looks for a path of a domain that an automaton reads to ends of all indexes below `required`, and to no end of `required`.
+/// Looks for a shortest path of a domain that an automaton reads to ends of all indexes below `required`, and to no end of `required`.
 ///
 /// It stops when there are more rows than the limit.
 pub fn search(
@@ -60,10 +64,12 @@ pub fn search(
     domain: Domain,
     limit: usize,
 ) -> Result<Answer, AllocError>
+    requires { 0 < required }
     ensures { IfOk result (TellsSearch automaton.now required domain limit) }
 {
     let mut memory = Memory::new(alloc, automaton)?;
-    let boundaries = boundaries_of(automaton);
+    let bytes = representatives(alloc, automaton)?;
+    let leading = leading(alloc, automaton, 0)?;
     let mut rows = first_rows(alloc, automaton, domain, &mut memory)?;
     let mut next = 0;
     while next < rows.len() {
@@ -79,7 +85,8 @@ pub fn search(
             automaton,
             required,
             domain,
-            &boundaries,
+            &bytes,
+            &leading,
             &mut rows,
             next,
             &mut memory,
@@ -89,26 +96,7 @@ pub fn search(
     Ok(Answer::Nothing)
 }
 
-/// Returns a set that has each byte that is not read as the one after it is.
-fn boundaries_of(automaton: &Nfa) -> ByteSet
-    ensures { AreBoundaries automaton.now result }
-{
-    automaton
-        .class_boundaries()
-        .with(0)
-        .with(b'.' - 1)
-        .with(b'.')
-        .with(b'/')
-}
-
-/// Returns whether a byte is the first of those that are read as it is, in a row.
-fn begins_class(boundaries: &ByteSet, byte: u8) -> bool
-    ensures { IsTrue result ↔ BeginsClass boundaries.now byte }
-{
-    byte == 0 || boundaries.has(byte - 1)
-}
-
-/// Returns the row where a path begins, alone.
+/// Returns the row in which a path begins, alone.
 fn first_rows(
     alloc: Global,
     automaton: &Nfa,
@@ -118,6 +106,7 @@ fn first_rows(
     requires { HasRoom automaton.now memory.old }
     ensures room { HasRoom automaton.now memory.new }
     ensures rows { IfOk result (AreRows automaton.now domain) }
+    ensures before { IfOk result (λ rows. CameBefore rows 0) }
 {
     automaton.start(&mut memory.from);
     let states = states_of(alloc, &memory.from, automaton.state_count())?;
@@ -174,13 +163,14 @@ fn next_row(
     Ok(Some(Row { place, states }))
 }
 
-/// Adds the rows that bytes lead to from a row.
+/// Adds the rows that bytes lead to from a row. The bytes are one of each class of bytes that are read alike.
 fn expand(
     alloc: Global,
     automaton: &Nfa,
     required: usize,
     domain: Domain,
-    boundaries: &ByteSet,
+    bytes: &[u8],
+    leading: &[bool],
     rows: &mut Rows,
     number: usize,
     memory: &mut Memory,
@@ -188,29 +178,31 @@ fn expand(
     requires room { HasRoom automaton.now memory.old }
     requires rows { AreRows automaton.now domain rows.old }
     requires number { number < length rows.old.seen.keys }
-    requires boundaries { AreBoundaries automaton.now boundaries.now }
+    requires before { CameBefore rows.old (number + 1) }
+    requires required { 0 < required }
+    requires leading { AreLeading automaton.now 0 leading.now }
+    requires bytes { AreRepresentatives automaton.now bytes.now }
     ensures room { HasRoom automaton.now memory.new }
     ensures rows { OnOk result (AreRows automaton.now domain rows.new) }
+    ensures before { OnOk result (CameBefore rows.new (number + 1)) }
     ensures kept { OnOk result (KeepsRows rows.old rows.new) }
     ensures followed { OnOk result (IsFollowed automaton.now required rows.new number) }
 {
-    for i in 0..256usize {
-        let byte = i as u8;
-        if begins_class(boundaries, byte) {
-            add_next(
-                alloc, automaton, required, domain, rows, number, byte, memory,
-            )?;
-        }
+    for byte in bytes {
+        add_next(
+            alloc, automaton, required, domain, leading, rows, number, *byte, memory,
+        )?;
     }
     Ok(())
 }
 
-/// Adds the row that a byte leads to from a row, unless it is there.
+/// Adds the row that a byte leads to from a row, unless it is there, or no text leads from it to an end of the index 0.
 fn add_next(
     alloc: Global,
     automaton: &Nfa,
     required: usize,
     domain: Domain,
+    leading: &[bool],
     rows: &mut Rows,
     number: usize,
     byte: u8,
@@ -219,15 +211,21 @@ fn add_next(
     requires room { HasRoom automaton.now memory.old }
     requires rows { AreRows automaton.now domain rows.old }
     requires number { number < length rows.old.seen.keys }
+    requires before { CameBefore rows.old (number + 1) }
+    requires required { 0 < required }
+    requires leading { AreLeading automaton.now 0 leading.now }
     ensures room { HasRoom automaton.now memory.new }
     ensures rows { OnOk result (AreRows automaton.now domain rows.new) }
+    ensures before { OnOk result (CameBefore rows.new (number + 1)) }
     ensures kept { OnOk result (KeepsRows rows.old rows.new) }
     ensures followed { OnOk result (IsFollowedBy automaton.now required rows.new number byte) }
 {
     let _domain = domain;
     let _required = required;
     if let Some(row) = next_row(alloc, automaton, rows.row(number), byte, memory)? {
-        rows.add(row, Origin { row: number, byte })?;
+        if has_leading(leading, &row.states) {
+            rows.add(row, Origin { row: number, byte })?;
+        }
     }
     Ok(())
 }

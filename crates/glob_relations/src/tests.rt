@@ -1,6 +1,8 @@
 //! What no clause says: that calls succeed, and which answers they give where a limit is large enough.
 
-use crate::{Coverage, Domain, Intersection, covering, overlap};
+use crate::{
+    Coverage, Decides, Domain, Intersection, Reachability, covering, overlap, unreachable,
+};
 use globset_glob::{Candidate, Error, Glob, GlobBuilder};
 use std::alloc::Global;
 
@@ -117,5 +119,72 @@ fn globs_are_disjoint(rt: HostRuntime) -> Result<(), Error> {
             "row {row}"
         );
     }
+    Ok(())
+}
+
+/// A glob, what may cover it, and the path that shows that it is not covered.
+const PATHS: [(&str, &[&str], &str); 5] = [
+    ("*", &["*.c"], "0"),
+    ("*", &["[a-z]", "[0-9]", "[A-Z]"], "\u{1}"),
+    ("**/a", &["a", "?/a"], "00/a"),
+    ("x[!a-z0-9A-Z]", &[], "x\u{1}"),
+    ("a?c", &["a[0-9]c"], "aAc"),
+];
+
+#[test]
+fn paths_are_short(rt: HostRuntime) -> Result<(), Error> {
+    for (row, (text, by, path)) in PATHS.iter().enumerate() {
+        let first = glob(rt.alloc(), text)?;
+        let others = globs(rt.alloc(), by)?;
+        let answer = covering(rt.alloc(), &first, &others, Domain::RelativePaths, 1000)?;
+        assert!(rt;
+            matches!(&answer, Coverage::Not(found) if found.as_slice() == path.as_bytes()),
+            "row {row}"
+        );
+    }
+    Ok(())
+}
+
+/// Globs of which the last that matches decides, and for each: `None` if it decides for some relative path, or else which cover it.
+const UNUSED: [(&[&str], &[Option<&[usize]>]); 5] = [
+    (&["*", "a", "*"], &[Some(&[2]), Some(&[2]), None]),
+    (&["a/**", "*/b", "**"], &[Some(&[2]), Some(&[2]), None]),
+    (
+        &["a[!b]", "a[a-z]", "b", "a[!a-z]"],
+        &[Some(&[1, 3]), None, None, None],
+    ),
+    (&["..", "a//b", "a"], &[Some(&[]), Some(&[]), None]),
+    (&[], &[]),
+];
+
+fn is_as_told(told: &Reachability, wanted: &Option<&[usize]>) -> bool {
+    match (told, wanted) {
+        (Reachability::Decides(_), None) => true,
+        (Reachability::Never(set), Some(wanted)) => set.as_slice() == *wanted,
+        _ => false,
+    }
+}
+
+#[test]
+fn globs_never_decide(rt: HostRuntime) -> Result<(), Error> {
+    for (row, (texts, wanted)) in UNUSED.iter().enumerate() {
+        let list = globs(rt.alloc(), texts)?;
+        let last = unreachable(
+            rt.alloc(),
+            &list,
+            Decides::Last,
+            Domain::RelativePaths,
+            1000,
+        )?;
+        assert_eq!(rt; last.len(), wanted.len(), "row {row}");
+        for (told, wanted) in last.iter().zip(*wanted) {
+            assert!(rt; is_as_told(told, wanted), "row {row}");
+        }
+    }
+    let list = globs(rt.alloc(), &["a*", "*", "ab"])?;
+    let first = unreachable(rt.alloc(), &list, Decides::First, Domain::AllPaths, 1000)?;
+    assert!(rt; matches!(&first[0], Reachability::Decides(_)));
+    assert!(rt; matches!(&first[1], Reachability::Decides(_)));
+    assert!(rt; matches!(&first[2], Reachability::Never(set) if set.as_slice() == [0].as_slice()));
     Ok(())
 }

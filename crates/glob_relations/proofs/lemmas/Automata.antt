@@ -10,11 +10,12 @@ use Rattle.glob_syntax.specs.declared.options.Options.{Options}
 use Rattle.glob_syntax.specs.Token.{Tokens}
 use Rattle.glob_strategy.specs.IndexedTokens.{IndexedTokens, indexed, SomeMatches, IsFor}
 use Rattle.glob_text.specs.GlobMatches.{GlobValue, tokens_of_glob, glob_matches}
-use Rattle.glob_relations.specs.Answers.{some_match, TellsCovering, TellsOverlap}
+use Rattle.glob_relations.specs.Answers.{some_match, IsMissed, IsShared, TellsCovering, TellsOverlap}
 use Rattle.glob_relations.specs.Domains.{IsIn}
 use Rattle.glob_relations.specs.declared.domain.Domain.{Domain}
 use Rattle.glob_relations.specs.inner.Automata.{indexed_glob, indexed_globs}
-use Rattle.glob_relations.specs.inner.Rows.{WantsFrom, TellsSearch}
+use Rattle.glob_relations.specs.Shortest.{IsShortest}
+use Rattle.glob_relations.specs.inner.Rows.{WantsFrom, IsWantedText, TellsSearch}
 use Rattle.glob_relations.specs.inner.Told.{coverage_of, intersection_of}
 use Rattle.glob_relations.specs.declared.search.Answer.{Answer}
 use Rattle.glob_relations.specs.declared.search.Answer.TheVariants.{Found, Nothing, Limit}
@@ -57,47 +58,65 @@ is_true : (b : Bool) → (IsFalse b → ⊥) → IsTrue b
 is_true true h = refl
 is_true false h = absurd (h refl)
 
-module _ (m : NfaValue) (g : GlobValue) (by : List GlobValue) (domain : Domain) (is : IsFor m (indexed_glob 0 g ∷ indexed_globs 1 by)) (path : List ℕ) where
-  -- a path that the search wants is one that is not covered
-  pub uncovered_there : AllBytes path → WantsFrom m 1 domain path → IsIn domain path × IsTrue (glob_matches g path) × IsFalse (some_match by path)
-  uncovered_there bytes (ends, (all, none)) = (
-    (is_in domain path).1 (bytes, ends),
-    ⊎_elim {C = IsTrue (glob_matches g path)} (λ (same, h). h) (λ other. let (e, h) = some_back 1 by path 0 other in absurd (omega arith))
-        (one_back 0 g (indexed_globs 1 by) path 0 ((reached m (indexed_glob 0 g ∷ indexed_globs 1 by) is path 0 bytes).0 (all 0 (omega arith)))),
-    is_false (some_match by path) (λ h. none ((reached m (indexed_glob 0 g ∷ indexed_globs 1 by) is path 1 bytes).1 (inr (some_there 1 by path h)))),
-  )
+-- the shortest of texts that have a property has each property that the same texts have
+shortest_same : (P Q : List ℕ → Type 0) (text : List ℕ) → ((y : List ℕ) → P y ↔ Q y) → IsShortest P text → IsShortest Q text
+shortest_same P Q text same (has, least) = ((same text).0 has, λ other q. least other ((same other).1 q))
 
-  pub covered_back : (AllBytes path → WantsFrom m 1 domain path → ⊥) → IsIn domain path → IsTrue (glob_matches g path) → IsTrue (some_match by path)
-  covered_back never inside matched =
-      let (bytes, ends) = (is_in domain path).0 inside in
-      is_true (some_match by path) (λ off. never bytes (
-        ends,
-        (
-          λ k lt. let zero_is : 0 ≡ k = omega arith in subst (IsReached m path) zero_is ((reached m (indexed_glob 0 g ∷ indexed_globs 1 by) is path 0 bytes).1 (one_there 0 g (indexed_globs 1 by) path matched)),
-          λ reaches. ⊎_elim {C = ⊥} (λ (e, h). absurd (omega arith)) (λ other. let (e, h) = some_back 1 by path 1 other in true≢false (sym h ∙ off))
-              (one_back 0 g (indexed_globs 1 by) path 1 ((reached m (indexed_glob 0 g ∷ indexed_globs 1 by) is path 1 bytes).0 reaches)),
+module _ (m : NfaValue) (g : GlobValue) (by : List GlobValue) (domain : Domain) (is : IsFor m (indexed_glob 0 g ∷ indexed_globs 1 by)) where
+  -- the paths that the search wants are those that are missed
+  wanted_missed : (path : List ℕ) → IsWantedText m 1 domain path ↔ IsMissed g by domain path
+  wanted_missed path = (
+    λ (bytes, (ends, (all, none))). (
+      (is_in domain path).1 (bytes, ends),
+      ⊎_elim {C = IsTrue (glob_matches g path)} (λ (same, h). h) (λ other. let (e, h) = some_back 1 by path 0 other in absurd (omega arith))
+          (one_back 0 g (indexed_globs 1 by) path 0 ((reaches 0 bytes).0 (all 0 (omega arith)))),
+      is_false (some_match by path) (λ h. none ((reaches 1 bytes).1 (inr (some_there 1 by path h)))),
+    ),
+    λ (inside, matched, off).
+        let (bytes, ends) = (is_in domain path).0 inside in (
+          bytes,
+          (
+            ends,
+            (
+              λ k lt. let zero_is : 0 ≡ k = omega arith in subst (IsReached m path) zero_is ((reaches 0 bytes).1 (one_there 0 g (indexed_globs 1 by) path matched)),
+              λ reach. ⊎_elim {C = ⊥} (λ (e, h). absurd (omega arith)) (λ other. let (e, h) = some_back 1 by path 1 other in true≢false (sym h ∙ off))
+                  (one_back 0 g (indexed_globs 1 by) path 1 ((reaches 1 bytes).0 reach)),
+            ),
+          ),
         ),
-      ))
-
-module _ (m : NfaValue) (a b : GlobValue) (domain : Domain) (is : IsFor m (indexed_glob 0 a ∷ indexed_glob 1 b ∷ [])) (path : List ℕ) where
-  pub both_there : AllBytes path → WantsFrom m 2 domain path → IsIn domain path × IsTrue (glob_matches a path) × IsTrue (glob_matches b path)
-  both_there bytes (ends, (all, none)) = (
-    (is_in domain path).1 (bytes, ends),
-    ⊎_elim {C = IsTrue (glob_matches a path)} (λ (same, h). h)
-        (λ other. ⊎_elim {C = IsTrue (glob_matches a path)} (λ (e, h). absurd (omega arith)) (λ no. absurd no) (one_back 1 b [] path 0 other))
-        (one_back 0 a (indexed_glob 1 b ∷ []) path 0 ((reached m (indexed_glob 0 a ∷ indexed_glob 1 b ∷ []) is path 0 bytes).0 (all 0 (omega arith)))),
-    ⊎_elim {C = IsTrue (glob_matches b path)} (λ (e, h). absurd (omega arith))
-        (λ other. ⊎_elim {C = IsTrue (glob_matches b path)} (λ (e, h). h) (λ no. absurd no) (one_back 1 b [] path 1 other))
-        (one_back 0 a (indexed_glob 1 b ∷ []) path 1 ((reached m (indexed_glob 0 a ∷ indexed_glob 1 b ∷ []) is path 1 bytes).0 (all 1 (omega arith)))),
   )
-
-  pub disjoint_back : (AllBytes path → WantsFrom m 2 domain path → ⊥) → IsIn domain path → IsTrue (glob_matches a path) → IsTrue (glob_matches b path) → ⊥
-  disjoint_back never inside first second =
-      let (bytes, ends) = (is_in domain path).0 inside in
-      let zero_reached : IsReached m path 0 = (reached m (indexed_glob 0 a ∷ indexed_glob 1 b ∷ []) is path 0 bytes).1 (one_there 0 a (indexed_glob 1 b ∷ []) path first) in
-      let one_reached : IsReached m path 1 = (reached m (indexed_glob 0 a ∷ indexed_glob 1 b ∷ []) is path 1 bytes).1 (inr (one_there 1 b [] path second)) in
-      never bytes (ends, (both zero_reached one_reached, λ reaches. no_two ((reached m (indexed_glob 0 a ∷ indexed_glob 1 b ∷ []) is path 2 bytes).0 reaches)))
     where
+      reaches : (k : ℕ) → AllBytes path → IsReached m path k ↔ SomeMatches (indexed_glob 0 g ∷ indexed_globs 1 by) path k
+      reaches k bytes = reached m (indexed_glob 0 g ∷ indexed_globs 1 by) is path k bytes
+
+  pub told_covering : (limit : ℕ) (answer : Answer) → TellsSearch m 1 domain limit answer → TellsCovering g by domain limit (coverage_of answer)
+  told_covering limit (Found path) found = shortest_same (IsWantedText m 1 domain) (IsMissed g by domain) path.items wanted_missed found
+  told_covering limit Nothing none = λ path inside matched. is_true (some_match by path) (λ off. none path ((wanted_missed path).1 (inside, matched, off)))
+  told_covering limit Limit more = (m, is, more)
+
+module _ (m : NfaValue) (a b : GlobValue) (domain : Domain) (is : IsFor m (indexed_glob 0 a ∷ indexed_glob 1 b ∷ [])) where
+  -- the paths that the search wants are those that both match
+  wanted_shared : (path : List ℕ) → IsWantedText m 2 domain path ↔ IsShared a b domain path
+  wanted_shared path = (
+    λ (bytes, (ends, (all, none))). (
+      (is_in domain path).1 (bytes, ends),
+      ⊎_elim {C = IsTrue (glob_matches a path)} (λ (same, h). h)
+          (λ other. ⊎_elim {C = IsTrue (glob_matches a path)} (λ (e, h). absurd (omega arith)) (λ no. absurd no) (one_back 1 b [] path 0 other))
+          (one_back 0 a (indexed_glob 1 b ∷ []) path 0 ((reaches 0 bytes).0 (all 0 (omega arith)))),
+      ⊎_elim {C = IsTrue (glob_matches b path)} (λ (e, h). absurd (omega arith))
+          (λ other. ⊎_elim {C = IsTrue (glob_matches b path)} (λ (e, h). h) (λ no. absurd no) (one_back 1 b [] path 1 other))
+          (one_back 0 a (indexed_glob 1 b ∷ []) path 1 ((reaches 1 bytes).0 (all 1 (omega arith)))),
+    ),
+    λ (inside, first, second).
+        let (bytes, ends) = (is_in domain path).0 inside in
+        let zero_reached : IsReached m path 0 = (reaches 0 bytes).1 (one_there 0 a (indexed_glob 1 b ∷ []) path first) in
+        let one_reached : IsReached m path 1 = (reaches 1 bytes).1 (inr (one_there 1 b [] path second)) in
+        (bytes, (ends, (both zero_reached one_reached, λ reach. no_two ((reaches 2 bytes).0 reach)))),
+  )
+    where
+      reaches : (k : ℕ) → AllBytes path → IsReached m path k ↔ SomeMatches (indexed_glob 0 a ∷ indexed_glob 1 b ∷ []) path k
+      reaches k bytes = reached m (indexed_glob 0 a ∷ indexed_glob 1 b ∷ []) is path k bytes
+
       both : IsReached m path 0 → IsReached m path 1 → (k : ℕ) → k < 2 → IsReached m path k
       both first second zero lt = first
       both first second (suc zero) lt = second
@@ -108,14 +127,7 @@ module _ (m : NfaValue) (a b : GlobValue) (domain : Domain) (is : IsFor m (index
           (λ other. ⊎_elim {C = ⊥} (λ (e, y). absurd (omega arith)) (λ no. no) (one_back 1 b [] path 2 other))
           (one_back 0 a (indexed_glob 1 b ∷ []) path 2 h)
 
-pub told_covering : (m : NfaValue) (g : GlobValue) (by : List GlobValue) (domain : Domain) (limit : ℕ) → IsFor m (indexed_glob 0 g ∷ indexed_globs 1 by) → (answer : Answer) → TellsSearch m 1 domain limit answer
-    → TellsCovering g by domain limit (coverage_of answer)
-told_covering m g by domain limit is (Found path) (bytes, wants) = uncovered_there m g by domain is path.items bytes wants
-told_covering m g by domain limit is Nothing none = λ path. covered_back m g by domain is path (none path)
-told_covering m g by domain limit is Limit more = (m, is, more)
-
-pub told_overlap : (m : NfaValue) (a b : GlobValue) (domain : Domain) (limit : ℕ) → IsFor m (indexed_glob 0 a ∷ indexed_glob 1 b ∷ []) → (answer : Answer) → TellsSearch m 2 domain limit answer
-    → TellsOverlap a b domain limit (intersection_of answer)
-told_overlap m a b domain limit is (Found path) (bytes, wants) = both_there m a b domain is path.items bytes wants
-told_overlap m a b domain limit is Nothing none = λ path. disjoint_back m a b domain is path (none path)
-told_overlap m a b domain limit is Limit more = (m, is, more)
+  pub told_overlap : (limit : ℕ) (answer : Answer) → TellsSearch m 2 domain limit answer → TellsOverlap a b domain limit (intersection_of answer)
+  told_overlap limit (Found path) found = shortest_same (IsWantedText m 2 domain) (IsShared a b domain) path.items wanted_shared found
+  told_overlap limit Nothing none = λ path inside first second. none path ((wanted_shared path).1 (inside, first, second))
+  told_overlap limit Limit more = (m, is, more)

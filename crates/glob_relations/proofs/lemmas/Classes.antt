@@ -1,16 +1,20 @@
 -- Bytes that are read alike.
-use Rattle.std.proofs.Common.{◌≡◌, ℕ, zero, suc, ◌+◌, ◌<◌, ◌≤◌, inl, inr, Bool, true, false, true≢false, List, ◌∷◌, refl, ap, sym, subst, ◌∙◌, arith, ne_eqb}
+use Rattle.std.proofs.Common.{◌≡◌, ℕ, zero, suc, ◌+◌, ◌<◌, ◌≤◌, ◌⊎◌, inl, inr, Bool, true, false, true≢false, List, [], ◌∷◌, ◌++◌, refl, ap, sym, subst, ◌∙◌, arith, ne_eqb}
+use Rattle.std.specs.Prelude.{Contains}
+use Rattle.std.proofs.lemmas.Bool.{cases_lt}
+use Rattle.std.proofs.lemmas.List.Elements.{Contains-append_left, Contains-append_right, Contains-push}
+use Rattle.std.proofs.Math.Logic.{⊎_elim}
 use Rattle.bit_sets.specs.Bytes.{has_byte}
 use Rattle.bit_sets.specs.declared.byte_set.ByteSet.{ByteSet}
 use Rattle.byte_nfa.specs.Steps.{NfaValue}
 use Rattle.byte_nfa.proofs.lemmas.Equivalent.{accepts_equivalent}
 use Rattle.glob_relations.specs.declared.rows.Row.{Row}
 use Rattle.glob_relations.specs.inner.Places.{kind_of, after_kind, ends_in}
-use Rattle.glob_relations.specs.inner.Rows.{AcceptsIn, AreAlike, AreBoundaries, BeginsClass, WantsRow}
+use Rattle.glob_relations.specs.inner.Rows.{AcceptsIn, AreAlike, AreBoundaries, AreRepresentatives, BeginsClass, WantsRow}
 use Rattle.glob_relations.proofs.lemmas.Passes.{wanted_iff}
 
 -- each byte is like one that begins a class
-pub represented : (m : NfaValue) (set : ByteSet) → AreBoundaries m set → (c : ℕ) → c < 256 → (r : ℕ) × (r ≤ c) × BeginsClass set r × AreAlike m r c
+represented : (m : NfaValue) (set : ByteSet) → AreBoundaries m set → (c : ℕ) → c < 256 → (r : ℕ) × (r ≤ c) × BeginsClass set r × AreAlike m r c
 represented m set boundaries zero lt = (0, omega arith, inl refl, (λ s. refl, refl))
 represented m set boundaries (suc c) lt = by (represented m set boundaries c (omega arith)) (has_byte set c) refl
   where
@@ -36,6 +40,44 @@ wants_alike m n row b c y alike (ends, wanted) = (
   (wanted_iff n (AcceptsIn m row.states.items (c ∷ y)) (AcceptsIn m row.states.items (b ∷ y))
       (λ k. (accepts_alike m row.states.items c b (alike_sym m b c alike) y k, accepts_alike m row.states.items b c alike y k))).0 wanted,
 )
+
+-- bytes that are alike one after another
+pub alike_next : (m : NfaValue) (set : ByteSet) → AreBoundaries m set → (b c : ℕ) → b + 1 < 256 → has_byte set b ≡ false → AreAlike m b c → AreAlike m (b + 1) c
+alike_next m set are b c lt off alike =
+    let next = are b lt (λ at. true≢false (sym at ∙ off)) in
+    (λ s. sym (next.0 s) ∙ alike.0 s, sym next.1 ∙ alike.1)
+
+-- each byte below i that begins a class is like some byte of two lists
+abbrev pub AreFound : NfaValue → ByteSet → List ℕ → List ℕ → ℕ → Type 0
+AreFound m set first rest i = (c : ℕ) → c < i → BeginsClass set c → (b : ℕ) × (Contains first b ⊎ Contains rest b) × AreAlike m b c
+
+module _ (m : NfaValue) (set : ByteSet) (first rest : List ℕ) (i : ℕ) (found : AreFound m set first rest i) where
+  found_here : (b : ℕ) (xs ys : List ℕ) → Contains xs b ⊎ Contains ys b → ((c : ℕ) → Contains first c → Contains xs c) → ((c : ℕ) → Contains rest c → Contains ys c) → AreAlike m b i → AreFound m set xs ys (i + 1)
+  found_here b xs ys here left right alike c lt begins = ⊎_elim {C = (d : ℕ) × (Contains xs d ⊎ Contains ys d) × AreAlike m d c}
+      (λ low. let (d, at, like) = found c low begins in (d, ⊎_elim {C = Contains xs d ⊎ Contains ys d} (λ h. inl (left d h)) (λ h. inr (right d h)) at, like))
+      (λ high. let is : i ≡ c = omega arith in (b, here, subst (AreAlike m b) is alike))
+      (cases_lt c i)
+
+  pub found_first : (b : ℕ) → AreAlike m b i → AreFound m set (first ++ b ∷ []) rest (i + 1)
+  found_first b alike = found_here b (first ++ b ∷ []) rest (inl (Contains-push first b)) (λ c h. Contains-append_left first (b ∷ []) c h) (λ c h. h) alike
+
+  pub found_rest : (b : ℕ) → AreAlike m b i → AreFound m set first (rest ++ b ∷ []) (i + 1)
+  found_rest b alike = found_here b first (rest ++ b ∷ []) (inr (Contains-push rest b)) (λ c h. h) (λ c h. Contains-append_left rest (b ∷ []) c h) alike
+
+  pub found_past : (BeginsClass set i → ⊥) → AreFound m set first rest (i + 1)
+  found_past none c lt begins = ⊎_elim {C = (d : ℕ) × (Contains first d ⊎ Contains rest d) × AreAlike m d c}
+      (λ low. found c low begins)
+      (λ high. let is : c ≡ i = omega arith in absurd (none (subst (BeginsClass set) is begins)))
+      (cases_lt c i)
+
+  pub found_all : 255 < i → AreBoundaries m set → AreRepresentatives m (first ++ rest)
+  found_all all are c lt =
+      let (r, le, begins, alike) = represented m set are c lt in
+      let (b, at, like) = found r (omega arith) begins in (
+        b,
+        ⊎_elim {C = Contains (first ++ rest) b} (λ h. Contains-append_left first rest b h) (λ h. Contains-append_right first rest b h) at,
+        (λ s. like.0 s ∙ alike.0 s, like.1 ∙ alike.1),
+      )
 
 -- a byte that is none of these is like the next one
 pub kinds_alike : (b : ℕ) → (b ≡ 0 → ⊥) → (b ≡ 45 → ⊥) → (b ≡ 46 → ⊥) → (b ≡ 47 → ⊥) → kind_of b ≡ kind_of (b + 1)

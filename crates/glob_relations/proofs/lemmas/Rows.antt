@@ -13,7 +13,8 @@ use Rattle.glob_relations.specs.declared.rows.Row.{Row}
 use Rattle.glob_relations.specs.declared.rows.Rows.{Rows}
 use Rattle.glob_relations.specs.declared.rows.Origin.{Origin}
 use Rattle.glob_relations.specs.inner.Places.{place_after, first_place, ends_in}
-use Rattle.glob_relations.specs.inner.Rows.{AcceptsIn, IsWantedBy, WantsRow, WantsFrom, WantsSome, HasRow, AreStates, IsFirstRow, GoesTo, CameFrom, AreRows, IsLedTo, AreDifferent, HasMoreRows, KeepsRows, AddsRow, IsFollowedBy, IsFollowed, AreDone}
+use Rattle.glob_relations.specs.Shortest.{IsShortest}
+use Rattle.glob_relations.specs.inner.Rows.{AcceptsIn, IsWantedBy, WantsRow, WantsFrom, WantsNext, HasRow, HasOrigin, IsNext, IsDeep, CameBefore, IsWantedText, AreStates, IsFirstRow, GoesTo, CameFrom, AreRows, IsLedTo, AreDifferent, HasMoreRows, KeepsRows, AddsRow, IsFollowedBy, IsFollowed, AreDone}
 use Rattle.glob_relations.proofs.lemmas.Passes.{wanted_iff}
 
 module _ {X : Type 0} where
@@ -70,28 +71,68 @@ wants_begins m n domain row y (place, accepts) =
 
 module _ (old new : Rows) (row : Row) (origin : Origin) where
   pub adds_kept : AddsRow old new row origin → KeepsRows old new
-  adds_kept (inl (keys, origins, there)) i r at = subst (λ (ks : List Row). slice_get ks i ≡ Some r) (sym keys) at
-  adds_kept (inr (keys, origins)) i r at = subst (λ (ks : List Row). slice_get ks i ≡ Some r) (sym keys) (get_left old.seen.keys (row ∷ []) i r at)
+  adds_kept (inl (keys, origins, there)) = (
+    λ i r at. subst (λ (ks : List Row). slice_get ks i ≡ Some r) (sym keys) at,
+    λ i o at. subst (λ (os : List Origin). slice_get os i ≡ Some o) (sym origins) at,
+  )
+  adds_kept (inr (keys, origins)) = (
+    λ i r at. subst (λ (ks : List Row). slice_get ks i ≡ Some r) (sym keys) (get_left old.seen.keys (row ∷ []) i r at),
+    λ i o at. subst (λ (os : List Origin). slice_get os i ≡ Some o) (sym origins) (get_left old.origins.items (origin ∷ []) i o at),
+  )
 
-  -- what is wanted from the row is wanted from some row
-  pub adds_wanted : (m : NfaValue) (n : ℕ) (y : List ℕ) → AddsRow old new row origin → WantsRow m n row y → WantsSome m n new y
-  adds_wanted m n y (inl (keys, origins, there)) wants =
+  -- each row but the first still came from one below the number
+  pub adds_before : (number : ℕ) → AddsRow old new row origin → origin.row < number → CameBefore old number → CameBefore new number
+  adds_before number (inl (keys, origins, there)) low before i o pos at = before i o pos (subst (λ (os : List Origin). slice_get os i ≡ Some o) origins at)
+  adds_before number (inr (keys, origins)) low before i o pos at = ⊎_elim {C = o.row < number}
+      (λ h. before i o pos h)
+      (λ (e, same). subst (λ (q : Origin). q.row < number) (sym same) low)
+      (get_cases old.origins.items origin i o (subst (λ (os : List Origin). slice_get os i ≡ Some o) origins at))
+
+  -- the first row came from none
+  pub first_before : AddsRow old new row origin → old.origins.items ≡ [] → CameBefore new 0
+  first_before added nothing i o pos at = absurd (omega (arith, most added, slice_get_within new.origins.items i o at))
+    where
+      most : AddsRow old new row origin → length new.origins.items ≤ 1
+      most (inl (keys, origins, there)) = rw (origins, nothing) (omega arith)
+      most (inr (keys, origins)) = rw (origins, nothing) (omega arith)
+
+  -- what is wanted from the row is wanted from some row that is next to its origin
+  pub adds_wanted : (m : NfaValue) (n : ℕ) (y : List ℕ) → AddsRow old new row origin → length old.origins.items ≡ length old.seen.keys → CameBefore old (origin.row + 1) → WantsRow m n row y
+      → WantsNext m n new origin.row y
+  adds_wanted m n y (inl (keys, origins, there)) len before wants =
       let (i, r, at, place, states) = there in
-      (i, r, subst (λ (ks : List Row). slice_get ks i ≡ Some r) (sym keys) at, wants_same m n r row y place states wants)
-  adds_wanted m n y (inr (keys, origins)) wants =
-      (length old.seen.keys, row, subst (λ (ks : List Row). slice_get ks (length old.seen.keys) ≡ Some row) (sym keys) (get_last old.seen.keys row), wants)
+      (i, r, subst (λ (ks : List Row). slice_get ks i ≡ Some r) (sym keys) at, next i (slice_get_within old.seen.keys i r at), wants_same m n r row y place states wants)
+    where
+      next : (i : ℕ) → i < length old.seen.keys → IsNext new origin.row i
+      next zero lt = inl refl
+      next (suc i) lt =
+          let (o, at) = get_some old.origins.items (suc i) (omega arith) in
+          let low = before (suc i) o (omega arith) at in
+          inr (o, subst (λ (os : List Origin). slice_get os (suc i) ≡ Some o) (sym origins) at, omega arith)
+  adds_wanted m n y (inr (keys, origins)) len before wants = (
+    length old.seen.keys,
+    row,
+    subst (λ (ks : List Row). slice_get ks (length old.seen.keys) ≡ Some row) (sym keys) (get_last old.seen.keys row),
+    inr (
+      origin,
+      subst (λ (i : ℕ). HasOrigin new i origin) len (subst (λ (os : List Origin). slice_get os (length old.origins.items) ≡ Some origin) (sym origins) (get_last old.origins.items origin)),
+      omega arith,
+    ),
+    wants,
+  )
 
   module _ (m : NfaValue) (domain : Domain) where
     came_kept : (i : ℕ) (r : Row) (o : Origin) → KeepsRows old new → CameFrom m old i r o → CameFrom m new i r o
-    came_kept i r o keeps (p, low, byte, has, goes) = (p, low, byte, keeps o.row p has, goes)
+    came_kept i r o keeps (p, low, byte, has, goes) = (p, low, byte, keeps.0 o.row p has, goes)
 
-    pub adds_sound : AddsRow old new row origin → AreStates (size m) row.states.items → CameFrom m old (length old.seen.keys) row origin → AreRows m domain old → AreRows m domain new
-    adds_sound (inl (keys, origins, there)) small from is = record {
+    pub adds_sound : AddsRow old new row origin → AreStates (size m) row.states.items → CameFrom m old (length old.seen.keys) row origin → CameBefore old (origin.row + 1) → AreRows m domain old → AreRows m domain new
+    adds_sound (inl (keys, origins, there)) small from low is = record {
       some = subst (λ (ks : List Row). 0 < length ks) (sym keys) is.some;
       len = ap length origins ∙ is.len ∙ sym (ap length keys);
       below = λ i r at. is.below i r (before i r at);
       begins = λ r at. is.begins r (before 0 r at);
-      came = λ i r o pos at came. came_kept i r o keeps (is.came i r o pos (before i r at) (subst (λ (os : List Origin). slice_get os i ≡ Some o) origins came));
+      came = λ i r o pos at came. came_kept i r o keeps (is.came i r o pos (before i r at) (origin_before i o came));
+      order = λ i j o p pos le at there. is.order i j o p pos le (origin_before i o at) (origin_before j p there);
     }
       where
         keeps : KeepsRows old new
@@ -99,7 +140,10 @@ module _ (old new : Rows) (row : Row) (origin : Origin) where
 
         before : (i : ℕ) (r : Row) → HasRow new i r → HasRow old i r
         before i r at = subst (λ (ks : List Row). slice_get ks i ≡ Some r) keys at
-    adds_sound (inr (keys, origins)) small from is = record {
+
+        origin_before : (i : ℕ) (o : Origin) → HasOrigin new i o → HasOrigin old i o
+        origin_before i o at = subst (λ (os : List Origin). slice_get os i ≡ Some o) origins at
+    adds_sound (inr (keys, origins)) small from low is = record {
       some = omega (arith, more);
       len = omega (arith, more, more_origins, is.len);
       below = λ i r at. ⊎_elim {C = AreStates (size m) r.states.items} (λ h. is.below i r h) (λ (e, same). subst (λ (q : Row). AreStates (size m) q.states.items) (sym same) small) (before i r at);
@@ -115,6 +159,16 @@ module _ (old new : Rows) (row : Row) (origin : Origin) where
           (subst (λ (q : Origin). CameFrom m new (length old.seen.keys) row q) (sym same') (came_kept (length old.seen.keys) row origin keeps from))))
           (came_before i o came))
           (before i r at);
+      order = λ i j o p pos le at there. ⊎_elim {C = o.row ≤ p.row}
+          (λ h. ⊎_elim {C = o.row ≤ p.row}
+          (λ g. is.order i j o p pos le h g)
+          (λ (e, same). let below = low i o pos h in let is' = ap (λ (q : Origin). q.row) same in omega arith)
+          (came_before j p there))
+          (λ (e, same). ⊎_elim {C = o.row ≤ p.row}
+          (λ g. let lt = slice_get_within old.origins.items j p g in absurd (omega arith))
+          (λ (e', same'). let is' = ap (λ (q : Origin). q.row) (same ∙ sym same') in omega arith)
+          (came_before j p there))
+          (came_before i o at);
     }
       where
         keeps : KeepsRows old new
@@ -129,7 +183,7 @@ module _ (old new : Rows) (row : Row) (origin : Origin) where
         before : (i : ℕ) (r : Row) → HasRow new i r → HasRow old i r ⊎ ((i ≡ length old.seen.keys) × (r ≡ row))
         before i r at = get_cases old.seen.keys row i r (subst (λ (ks : List Row). slice_get ks i ≡ Some r) keys at)
 
-        came_before : (i : ℕ) (o : Origin) → slice_get new.origins.items i ≡ Some o → (slice_get old.origins.items i ≡ Some o) ⊎ ((i ≡ length old.origins.items) × (o ≡ origin))
+        came_before : (i : ℕ) (o : Origin) → slice_get new.origins.items i ≡ Some o → HasOrigin old i o ⊎ ((i ≡ length old.origins.items) × (o ≡ origin))
         came_before i o at = get_cases old.origins.items origin i o (subst (λ (os : List Origin). slice_get os i ≡ Some o) origins at)
 
     -- the first row
@@ -146,6 +200,7 @@ module _ (old new : Rows) (row : Row) (origin : Origin) where
       below = λ i r at. subst (λ (q : Row). AreStates (size m) q.states.items) (sym (is_row i r at)) small;
       begins = λ r at. subst (λ (q : Row). IsFirstRow m domain q) (sym (is_row 0 r at)) begins;
       came = λ i r o pos at came. let lt = slice_get_within (row ∷ []) i r (subst (λ (ks : List Row). slice_get ks i ≡ Some r) one at) in absurd (omega arith);
+      order = λ i j o p pos le at there. let lt = slice_get_within (origin ∷ []) i o (subst (λ (os : List Origin). slice_get os i ≡ Some o) one_origin at) in absurd (omega arith);
     }
       where
         one : new.seen.keys ≡ row ∷ []
@@ -164,14 +219,18 @@ module _ (old new : Rows) (row : Row) (origin : Origin) where
 pub row_back : (old new : Rows) → KeepsRows old new → (i : ℕ) (r : Row) → i < length old.seen.keys → HasRow new i r → HasRow old i r
 row_back old new keeps i r lt at =
     let (q, was) = get_some old.seen.keys i lt in
-    subst (λ (x : Row). slice_get old.seen.keys i ≡ Some x) (get_same new.seen.keys i q r (keeps i q was) at) was
+    subst (λ (x : Row). slice_get old.seen.keys i ≡ Some x) (get_same new.seen.keys i q r (keeps.0 i q was) at) was
 
 module _ (m : NfaValue) (n : ℕ) where
-  pub wants_kept : (old new : Rows) (y : List ℕ) → KeepsRows old new → WantsSome m n old y → WantsSome m n new y
-  wants_kept old new y keeps (j, r, has, wants) = (j, r, keeps j r has, wants)
+  next_kept : (old new : Rows) (i j : ℕ) → KeepsRows old new → IsNext old i j → IsNext new i j
+  next_kept old new i j keeps (inl first) = inl first
+  next_kept old new i j keeps (inr (o, at, le)) = inr (o, keeps.1 j o at, le)
+
+  wants_kept : (old new : Rows) (i : ℕ) (y : List ℕ) → KeepsRows old new → WantsNext m n old i y → WantsNext m n new i y
+  wants_kept old new i y keeps (j, r, has, next, wants) = (j, r, keeps.0 j r has, next_kept old new i j keeps next, wants)
 
   pub followed_kept : (old new : Rows) (i b : ℕ) → KeepsRows old new → i < length old.seen.keys → IsFollowedBy m n old i b → IsFollowedBy m n new i b
-  followed_kept old new i b keeps lt is row at y wants = wants_kept old new y keeps (is row (row_back old new keeps i row lt at) y wants)
+  followed_kept old new i b keeps lt is row at y wants = wants_kept old new i y keeps (is row (row_back old new keeps i row lt at) y wants)
 
   pub done_kept : (old new : Rows) (next : ℕ) → KeepsRows old new → next ≤ length old.seen.keys → AreDone m n old next → AreDone m n new next
   done_kept old new next keeps le done i lt = (
@@ -194,13 +253,85 @@ module _ (m : NfaValue) (n : ℕ) where
       let lt = slice_get_within rows.seen.keys i row at in (done i (omega arith)).1 row at wants
   none_wanted rows next done le (b ∷ y) (byte, bytes) i row at wants =
       let lt = slice_get_within rows.seen.keys i row at in
-      let (j, r, has, w) = (done i (omega arith)).0 b byte row at y wants in
+      let (j, r, has, next', w) = (done i (omega arith)).0 b byte row at y wants in
       none_wanted rows next done le y bytes j r has w
 
-  pub nothing_wanted : (domain : Domain) (rows : Rows) (next : ℕ) → AreRows m domain rows → AreDone m n rows next → length rows.seen.keys ≤ next → (y : List ℕ) → AllBytes y → WantsFrom m n domain y → ⊥
-  nothing_wanted domain rows next is done le y bytes wants =
+  pub nothing_wanted : (domain : Domain) (rows : Rows) (next : ℕ) → AreRows m domain rows → AreDone m n rows next → length rows.seen.keys ≤ next → (y : List ℕ) → IsWantedText m n domain y → ⊥
+  nothing_wanted domain rows next is done le y (bytes, wants) =
       let (row, at) = get_some rows.seen.keys 0 is.some in
       none_wanted rows next done le y bytes 0 row at ((wants_begins m n domain row y (is.begins row at)).1 wants)
+
+-- a row that is not the first is one deeper than that which it came from
+pub origin_deep : (rows : Rows) (i d : ℕ) (origin : Origin) → 0 < i → HasOrigin rows i origin → IsDeep rows d i → (e : ℕ) × IsDeep rows e origin.row × (suc e ≡ d)
+origin_deep rows i zero origin pos from deep = absurd (omega arith)
+origin_deep rows i (suc d) origin pos from (pos', (o, at, deep)) =
+    (d, subst (λ (q : Origin). IsDeep rows d q.row) (get_same rows.origins.items i o origin at from) deep, refl)
+
+pub first_deep : (rows : Rows) (i d : ℕ) → i ≡ 0 → IsDeep rows d i → d ≡ 0
+first_deep rows i zero first deep = refl
+first_deep rows i (suc d) first (pos, deep) = absurd (omega arith)
+
+-- Rows are in the order of their depths.
+module _ (m : NfaValue) (domain : Domain) (rows : Rows) (is : AreRows m domain rows) where
+  deep_order : (d e i j : ℕ) → IsDeep rows d i → IsDeep rows e j → i ≤ j → d ≤ e
+  deep_order zero e i j deep deep' le = omega arith
+  deep_order (suc d) zero i j (pos, deep) deep' le = absurd (omega arith)
+  deep_order (suc d) (suc e) i j (pos, (o, at, deep)) (pos', (p, at', deep')) le =
+      let low = is.order i j o p pos le at at' in
+      let less = deep_order d e o.row p.row deep deep' low in
+      omega arith
+
+  deep_below : (bound i : ℕ) → i < bound → i < length rows.seen.keys → (d : ℕ) × IsDeep rows d i
+  deep_below zero i lt within = absurd (omega arith)
+  deep_below (suc bound) zero lt within = (0, refl)
+  deep_below (suc bound) (suc i) lt within =
+      let len = is.len in
+      let (row, at) = get_some rows.seen.keys (suc i) within in
+      let (o, from) = get_some rows.origins.items (suc i) (omega arith) in
+      let (p, low, byte, has, goes) = is.came (suc i) row o (omega arith) at from in
+      let (d, deep) = deep_below bound o.row (omega arith) (omega arith) in
+      (suc d, (omega arith, (o, from, deep)))
+
+  -- each row has a depth
+  pub depth_of : (i : ℕ) → i < length rows.seen.keys → (d : ℕ) × IsDeep rows d i
+  depth_of i within = deep_below (i + 1) i (omega arith) within
+
+  -- a row that is next to another is at most one deeper
+  next_deep : (d i j : ℕ) → i < length rows.seen.keys → IsDeep rows d i → IsNext rows i j → (e : ℕ) × IsDeep rows e j × (e ≤ d + 1)
+  next_deep d i j within deep (inl first) = (0, first, omega arith)
+  next_deep d i zero within deep (inr (o, at, le)) = (0, refl, omega arith)
+  next_deep d i (suc j) within deep (inr (o, at, le)) =
+      let (e, below) = depth_of o.row (omega arith) in
+      let less = deep_order e d o.row i below deep le in
+      (suc e, (omega arith, (o, at, below)), omega arith)
+
+  -- where the rows before one are done, a text that is wanted is no shorter than the one is deep
+  wanted_long : (n next d : ℕ) → AreDone m n rows next → IsDeep rows d next → (y : List ℕ) → AllBytes y → (i e : ℕ) (row : Row) → HasRow rows i row → IsDeep rows e i → WantsRow m n row y → d ≤ e + length y
+  wanted_long n next d done deep [] bytes i e row at deep' wants = ⊎_elim {C = d ≤ e + 0}
+      (λ low. absurd ((done i low).1 row at wants))
+      (λ high. let le = deep_order d e next i deep deep' high in omega arith)
+      (cases_lt i next)
+  wanted_long n next d done deep (b ∷ y) (byte, bytes) i e row at deep' wants = ⊎_elim {C = d ≤ e + length (b ∷ y)}
+      (λ low.
+      let (j, r, has, near, w) = (done i low).0 b byte row at y wants in
+      let (f, deeper, le) = next_deep e i j (slice_get_within rows.seen.keys i row at) deep' near in
+      let least = wanted_long n next d done deep y bytes j f r has deeper w in
+      omega arith)
+      (λ high. let le = deep_order d e next i deep deep' high in omega arith)
+      (cases_lt i next)
+
+  -- a path to the row is a shortest one
+  pub found_shortest : (n next : ℕ) (row : Row) (path : List ℕ) → AreDone m n rows next → HasRow rows next row → IsWantedText m n domain path → ((d : ℕ) → IsDeep rows d next → length path ≡ d)
+      → IsShortest (IsWantedText m n domain) path
+  found_shortest n next row path done at wanted long = (
+    wanted,
+    λ y (bytes, wants).
+        let (d, deep) = depth_of next (slice_get_within rows.seen.keys next row at) in
+        let (first, begins) = get_some rows.seen.keys 0 is.some in
+        let least = wanted_long n next d done deep y bytes 0 0 first begins refl ((wants_begins m n domain first y (is.begins first begins)).1 wants) in
+        let same = long d deep in
+        omega arith,
+  )
 
 -- where rows came from
 pub origin_low : (m : NfaValue) (domain : Domain) (rows : Rows) → AreRows m domain rows → (i : ℕ) (origin : Origin) → 0 < i → slice_get rows.origins.items i ≡ Some origin → (origin.row < i) × (origin.byte < 256)

@@ -1,19 +1,18 @@
 -- Where rows lead by a byte, and from the start.
-use Rattle.std.proofs.Common.{◌≡◌, ℕ, ◌+◌, ◌<◌, List, ◌∷◌, length, IsTrue, subst, arith}
-use Rattle.std.specs.Prelude.{◌↔◌}
+use Rattle.std.proofs.Common.{◌≡◌, ℕ, zero, suc, ◌+◌, ◌<◌, ◌≤◌, List, [], ◌∷◌, length, IsTrue, refl, sym, subst, ◌∙◌, arith}
+use Rattle.std.specs.Prelude.{◌↔◌, slice_index, slice_index_or}
 use Rattle.std.proofs.lemmas.Bool.{cases_lt}
 use Rattle.std.proofs.lemmas.Option.{slice_get_within}
 use Rattle.std.proofs.Math.Logic.{⊎_elim}
 use Rattle.bit_sets.specs.Numbers.{has_number}
 use Rattle.bit_sets.specs.StateSets.{has_state}
-use Rattle.bit_sets.specs.declared.byte_set.ByteSet.{ByteSet}
 use Rattle.bit_sets.specs.declared.state_set.StateSet.{StateSet}
 use Rattle.byte_nfa.specs.Runs.{size, AcceptsFrom}
 use Rattle.byte_nfa.specs.Steps.{NfaValue, IsReached}
 use Rattle.byte_nfa.proofs.lemmas.Pass.{iff_trans}
 use Rattle.glob_relations.specs.declared.rows.Rows.{Rows}
-use Rattle.glob_relations.specs.inner.Rows.{AcceptsIn, AreBoundaries, BeginsClass, IsFollowed, IsFollowedBy, KeepsRows}
-use Rattle.glob_relations.proofs.lemmas.Classes.{represented, wants_alike}
+use Rattle.glob_relations.specs.inner.Rows.{AcceptsIn, AreAlike, AreRepresentatives, IsFollowed, IsFollowedBy, KeepsRows}
+use Rattle.glob_relations.proofs.lemmas.Classes.{wants_alike}
 use Rattle.glob_relations.proofs.lemmas.Passes.{accepts_listed}
 use Rattle.glob_relations.proofs.lemmas.Rows.{get_some, followed_kept}
 
@@ -32,27 +31,25 @@ module _ (m : NfaValue) (set : StateSet) (count : ℕ) (same : count ≡ size m)
 pub kept_within : (old new : Rows) (i : ℕ) → KeepsRows old new → i < length old.seen.keys → i < length new.seen.keys
 kept_within old new i keeps lt =
     let (row, at) = get_some old.seen.keys i lt in
-    slice_get_within new.seen.keys i row (keeps i row at)
+    slice_get_within new.seen.keys i row (keeps.0 i row at)
 
-module _ (m : NfaValue) (n number : ℕ) (boundaries : ByteSet) where
-  -- one byte more that begins a class
-  pub followed_more : (old new : Rows) (i : ℕ) → KeepsRows old new → number < length old.seen.keys → ((b : ℕ) → b < i → BeginsClass boundaries b → IsFollowedBy m n old number b)
-      → IsFollowedBy m n new number i → (b : ℕ) → b < i + 1 → BeginsClass boundaries b → IsFollowedBy m n new number b
-  followed_more old new i keeps lt before here b below begins = ⊎_elim {C = IsFollowedBy m n new number b}
-      (λ low. followed_kept m n old new number b keeps lt (before b low begins))
-      (λ high. let is : i ≡ b = omega arith in subst (λ (x : ℕ). IsFollowedBy m n new number x) is here)
-      (cases_lt b i)
-
-  -- one that does not
-  pub followed_past : (rows : Rows) (i : ℕ) → ((b : ℕ) → b < i → BeginsClass boundaries b → IsFollowedBy m n rows number b)
-      → (BeginsClass boundaries i → ⊥) → (b : ℕ) → b < i + 1 → BeginsClass boundaries b → IsFollowedBy m n rows number b
-  followed_past rows i before none b below begins = ⊎_elim {C = IsFollowedBy m n rows number b}
-      (λ low. before b low begins)
-      (λ high. let is : b ≡ i = omega arith in absurd (none (subst (BeginsClass boundaries) is begins)))
-      (cases_lt b i)
+module _ (m : NfaValue) (n number : ℕ) (bytes : List ℕ) where
+  -- one byte more of a list
+  pub followed_more : (old new : Rows) (i : ℕ) → KeepsRows old new → number < length old.seen.keys → ((j : ℕ) → j < i → IsFollowedBy m n old number (slice_index bytes j))
+      → IsFollowedBy m n new number (slice_index bytes i) → (j : ℕ) → j < i + 1 → IsFollowedBy m n new number (slice_index bytes j)
+  followed_more old new i keeps lt before here j below = ⊎_elim {C = IsFollowedBy m n new number (slice_index bytes j)}
+      (λ low. followed_kept m n old new number (slice_index bytes j) keeps lt (before j low))
+      (λ high. let is : i ≡ j = omega arith in subst (λ (x : ℕ). IsFollowedBy m n new number (slice_index bytes x)) is here)
+      (cases_lt j i)
 
   -- all of them
-  pub followed_all : (rows : Rows) (i : ℕ) → 255 < i → AreBoundaries m boundaries → ((b : ℕ) → b < i → BeginsClass boundaries b → IsFollowedBy m n rows number b) → IsFollowed m n rows number
-  followed_all rows i all are each b lt row at y wants =
-      let (r, le, begins, alike) = represented m boundaries are b lt in
-      each r (omega arith) begins row at y (wants_alike m n row r b y alike wants)
+  pub followed_all : (rows : Rows) (i : ℕ) → length bytes ≤ i → AreRepresentatives m bytes → ((j : ℕ) → j < i → IsFollowedBy m n rows number (slice_index bytes j)) → IsFollowed m n rows number
+  followed_all rows i all are each c lt row at y wants =
+      let (b, (j, within, is), alike) = are c lt in
+      let same : slice_index bytes j ≡ b = at_any bytes j b within ∙ is in
+      each j (omega arith) row at y (wants_alike m n row (slice_index bytes j) c y (subst (λ (x : ℕ). AreAlike m x c) (sym same) alike) wants)
+    where
+      at_any : (xs : List ℕ) (j d : ℕ) → j < length xs → slice_index xs j ≡ slice_index_or xs j d
+      at_any [] j d lt' = absurd (omega arith)
+      at_any (x ∷ xs) zero d lt' = refl
+      at_any (x ∷ xs) (suc j) d lt' = at_any xs j d (omega arith)

@@ -1,5 +1,5 @@
 -- Rows: a place, and a set of states as a list.
-use Rattle.std.specs.Prelude.{◌≡◌, ℕ, ◌+◌, ◌<◌, ◌⊎◌, ◌↔◌, List, [], ◌∷◌, ◌++◌, length, slice_get, slice_index, Some, IsTrue}
+use Rattle.std.specs.Prelude.{◌≡◌, ℕ, zero, suc, ◌+◌, ◌<◌, ◌≤◌, ◌⊎◌, ◌↔◌, List, [], ◌∷◌, ◌++◌, length, Contains, slice_get, slice_index, Some, IsTrue}
 use Rattle.bit_sets.specs.Bytes.{has_byte}
 use Rattle.bit_sets.specs.declared.byte_set.ByteSet.{ByteSet}
 use Rattle.bit_sets.specs.Numbers.{has_number, AreBelow}
@@ -13,6 +13,7 @@ use Rattle.glob_relations.specs.declared.rows.Rows.{Rows}
 use Rattle.glob_relations.specs.declared.rows.Origin.{Origin}
 use Rattle.glob_relations.specs.declared.search.Answer.{Answer}
 use Rattle.glob_relations.specs.declared.search.Answer.TheVariants.{Found, Nothing, Limit}
+use Rattle.glob_relations.specs.Shortest.{IsShortest}
 use Rattle.glob_relations.specs.inner.Places.{kind_of, place_after, first_place, ends_in}
 
 -- each of the first n indexes is reached, and the next is not
@@ -39,9 +40,26 @@ WantsFrom m n domain y = IsTrue (ends_in (Some (first_place domain)) y) × IsWan
 abbrev pub HasRow : Rows → ℕ → Row → Type 0
 HasRow rows i row = slice_get rows.seen.keys i ≡ Some row
 
--- from some row the text leads to a wanted end
-abbrev pub WantsSome : NfaValue → ℕ → Rows → List ℕ → Type 0
-WantsSome m n rows y = (j : ℕ) × (r : Row) × HasRow rows j r × WantsRow m n r y
+-- where the row of the number i came from; of the first row, this means nothing
+abbrev pub HasOrigin : Rows → ℕ → Origin → Type 0
+HasOrigin rows i origin = slice_get rows.origins.items i ≡ Some origin
+
+-- the row of the number j is the first, or came from one that is no later than that of the number i
+abbrev pub IsNext : Rows → ℕ → ℕ → Type 0
+IsNext rows i j = (j ≡ 0) ⊎ ((origin : Origin) × HasOrigin rows j origin × (origin.row ≤ i))
+
+-- from some row that is next to that of the number i the text leads to what is wanted
+abbrev pub WantsNext : NfaValue → ℕ → Rows → ℕ → List ℕ → Type 0
+WantsNext m n rows i y = (j : ℕ) × (r : Row) × HasRow rows j r × IsNext rows i j × WantsRow m n r y
+
+-- the row of the number i came from the first by as many bytes
+abbrev pub IsDeep : Rows → ℕ → ℕ → Type 0
+IsDeep rows zero i = i ≡ 0
+IsDeep rows (suc depth) i = (0 < i) × ((origin : Origin) × HasOrigin rows i origin × IsDeep rows depth origin.row)
+
+-- each row but the first came from one below the number
+abbrev pub CameBefore : Rows → ℕ → Type 0
+CameBefore rows number = (i : ℕ) (origin : Origin) → 0 < i → HasOrigin rows i origin → origin.row < number
 
 -- paths begin in the row
 abbrev pub IsFirstRow : NfaValue → Domain → Row → Type 0
@@ -61,7 +79,8 @@ pub record AreRows (m : NfaValue) (domain : Domain) (rows : Rows) : Type 0 where
   pub len : length rows.origins.items ≡ length rows.seen.keys
   pub below : (i : ℕ) (row : Row) → HasRow rows i row → AreStates (size m) row.states.items
   pub begins : (row : Row) → HasRow rows 0 row → IsFirstRow m domain row
-  pub came : (i : ℕ) (row : Row) (origin : Origin) → 0 < i → HasRow rows i row → slice_get rows.origins.items i ≡ Some origin → CameFrom m rows i row origin
+  pub came : (i : ℕ) (row : Row) (origin : Origin) → 0 < i → HasRow rows i row → HasOrigin rows i origin → CameFrom m rows i row origin
+  pub order : (i j : ℕ) (o p : Origin) → 0 < i → i ≤ j → HasOrigin rows i o → HasOrigin rows j p → o.row ≤ p.row
 
 -- some path leads to the row: what follows it decides from the row as it does after the path
 abbrev pub IsLedTo : NfaValue → Domain → Row → Type 0
@@ -77,9 +96,9 @@ abbrev pub HasMoreRows : NfaValue → Domain → ℕ → Type 0
 HasMoreRows m domain limit = (rows : List Row) × (limit < length rows) × AreDifferent rows
     × ((i : ℕ) (row : Row) → slice_get rows i ≡ Some row → AreStates (size m) row.states.items × IsLedTo m domain row)
 
--- each row is still there
+-- each row is still there, with its origin
 abbrev pub KeepsRows : Rows → Rows → Type 0
-KeepsRows old new = (i : ℕ) (row : Row) → HasRow old i row → HasRow new i row
+KeepsRows old new = ((i : ℕ) (row : Row) → HasRow old i row → HasRow new i row) × ((i : ℕ) (origin : Origin) → HasOrigin old i origin → HasOrigin new i origin)
 
 -- the row was there, or was added
 abbrev pub AddsRow : Rows → Rows → Row → Origin → Type 0
@@ -87,9 +106,9 @@ AddsRow old new row origin =
     ((new.seen.keys ≡ old.seen.keys) × (new.origins.items ≡ old.origins.items) × ((i : ℕ) × (r : Row) × HasRow old i r × (r.place ≡ row.place) × (r.states.items ≡ row.states.items)))
     ⊎ ((new.seen.keys ≡ old.seen.keys ++ row ∷ []) × (new.origins.items ≡ old.origins.items ++ origin ∷ []))
 
--- each text that leads to a wanted end from the row of the number i after the byte also does so from some row
+-- what is wanted from the row of the number i after the byte is wanted from some row that is next to it
 abbrev pub IsFollowedBy : NfaValue → ℕ → Rows → ℕ → ℕ → Type 0
-IsFollowedBy m n rows i b = (row : Row) → HasRow rows i row → (y : List ℕ) → WantsRow m n row (b ∷ y) → WantsSome m n rows y
+IsFollowedBy m n rows i b = (row : Row) → HasRow rows i row → (y : List ℕ) → WantsRow m n row (b ∷ y) → WantsNext m n rows i y
 
 -- the same of each byte
 abbrev pub IsFollowed : NfaValue → ℕ → Rows → ℕ → Type 0
@@ -111,8 +130,16 @@ BeginsClass boundaries b = (b ≡ 0) ⊎ ((c : ℕ) × (b ≡ c + 1) × IsTrue (
 abbrev pub AreBoundaries : NfaValue → ByteSet → Type 0
 AreBoundaries m set = (b : ℕ) → b + 1 < 256 → (IsTrue (has_byte set b) → ⊥) → AreAlike m b (b + 1)
 
--- the answer of a search: a wanted path, or that there is none, or that there are more rows than the limit
+-- each byte is like some byte of the list
+abbrev pub AreRepresentatives : NfaValue → List ℕ → Type 0
+AreRepresentatives m bytes = (c : ℕ) → c < 256 → (b : ℕ) × Contains bytes b × AreAlike m b c
+
+-- the text is one of bytes, and leads from the start to what is wanted
+abbrev pub IsWantedText : NfaValue → ℕ → Domain → List ℕ → Type 0
+IsWantedText m n domain y = AllBytes y × WantsFrom m n domain y
+
+-- what a search tells: a shortest text that is wanted, or that there is none, or that there are more rows than the limit
 abbrev pub TellsSearch : NfaValue → ℕ → Domain → ℕ → Answer → Type 0
-TellsSearch m n domain limit (Found path) = AllBytes path.items × WantsFrom m n domain path.items
-TellsSearch m n domain limit Nothing = (y : List ℕ) → AllBytes y → WantsFrom m n domain y → ⊥
+TellsSearch m n domain limit (Found path) = IsShortest (IsWantedText m n domain) path.items
+TellsSearch m n domain limit Nothing = (y : List ℕ) → IsWantedText m n domain y → ⊥
 TellsSearch m n domain limit Limit = HasMoreRows m domain limit

@@ -6,4 +6,4 @@ use Rattle.glob_relations.proofs.relations.covering.Goals as goal
 pub returns-clause-ok : goal.returns-clause-ok
 returns-clause-ok c =
     subst (TellsCovering c.args.glob.now c.args.by.now c.args.domain c.args.limit) (sym c.coverage_of.ensures)
-    (told_covering c.in_ok-automaton.automaton c.args.glob.now c.args.by.now c.args.domain c.args.limit c.in_ok-automaton.ensures c.in_ok-answer.answer c.in_ok-answer.ensures)
+    (told_covering c.in_ok-automaton.automaton c.args.glob.now c.args.by.now c.args.domain c.in_ok-automaton.ensures c.args.limit c.in_ok-answer.answer c.in_ok-answer.ensures)

@@ -1,5 +1,5 @@
 use Rattle.std.proofs.Common.{arith, true≢false, sym, ◌∙◌}
-use Rattle.glob_relations.proofs.lemmas.Rows.{origin_low, done_more, nothing_wanted, more_rows}
+use Rattle.glob_relations.proofs.lemmas.Rows.{origin_low, done_more, found_shortest, nothing_wanted, more_rows}
 use Rattle.glob_relations.proofs.lemmas.Walks.{kept_within}
 use Rattle.glob_relations.proofs.search.search.Goals as goal
 
@@ -13,10 +13,18 @@ pub path_to-requires-clause-rows : goal.path_to-requires-clause-rows
 path_to-requires-clause-rows c = origin_low c.args.automaton.now c.args.domain c.loop-next.rows c.loop-next.invariant.rows
 
 pub returns-then-is_row_wanted : goal.returns-then-is_row_wanted
-returns-then-is_row_wanted c = (
-  c.in_ok-path.ensures.bytes,
-  c.in_ok-path.ensures.path c.args.automaton.now c.args.required c.args.domain c.row.result.now c.loop-next.invariant.rows c.row.ensures (c.is_row_wanted.ensures.wanted.0 c.if-is_row_wanted.true),
-)
+returns-then-is_row_wanted c =
+    let m = c.args.automaton.now in
+    let n = c.args.required in
+    let inv = c.loop-next.invariant in
+    let leads = c.in_ok-path.ensures.path m n c.args.domain c.row.result.now inv.rows c.row.ensures (c.is_row_wanted.ensures.wanted.0 c.if-is_row_wanted.true) in
+    found_shortest m c.args.domain c.loop-next.rows inv.rows n c.loop-next.next c.row.result.now c.in_ok-path.path.items inv.done c.row.ensures (c.in_ok-path.ensures.bytes, leads) c.in_ok-path.ensures.length
+
+pub expand-requires-clause-before : goal.expand-requires-clause-before
+expand-requires-clause-before c = λ i origin pos at. let low = c.loop-next.invariant.before i origin pos at in omega arith
+
+pub expand-requires-clause-bytes : goal.expand-requires-clause-bytes
+expand-requires-clause-bytes c = rw c.deref.ensures.value c.in_ok-bytes.ensures
 
 pub loop-next-preserved : goal.loop-next-preserved
 loop-next-preserved c =
@@ -28,6 +36,7 @@ loop-next-preserved c =
     record {
       room = did.room;
       rows = did.rows;
+      before = did.before;
       within = omega (arith, lt);
       done = done_more m n c.loop-next.rows c.expand.new.rows c.loop-next.next c.row.result.now did.kept (omega arith) inv.done did.followed c.row.ensures
           (λ wants. true≢false (sym (c.is_row_wanted.ensures.wanted.1 wants) ∙ c.if-is_row_wanted.false));

@@ -7,12 +7,12 @@ use Rattle.lazy_dfa.specs.LazyDfaValue.{LazyDfaValue}
 use Rattle.glob_matching.proofs.lemmas.Compiled.{after_matches, if_ok}
 use Rattle.glob_matching.proofs.lemmas.Rows.{never_after, stepped_within}
 use Rattle.glob_matching.proofs.compiled.Compiled.can_match_after.Goals as goal
-use Rattle.glob_matching.proofs.compiled.Compiled.can_match_after.Goals.{in-Some+in_default-can_match_after, in_default}
+use Rattle.glob_matching.proofs.compiled.Compiled.can_match_after.Goals.{in-Some-rows+in_default-can_match_after, in_default-rows}
 
 pub returns-in-Some-can_match_after-clause-some : goal.returns-in-Some-can_match_after-clause-some
 returns-in-Some-can_match_after-clause-some c =
     let m = c.args.self.now in
-    let made_for : c.in-Some.rows ≡ m = subst (λ (o : Option NfaValue). IfSome o (λ r. r ≡ c.self.inside.source)) c.in-Some.is c.self.invariant.1 ∙ c.self.view_is in
+    let made_for : c.in-Some-rows.rows ≡ m = subst (λ (o : Option NfaValue). IfSome o (λ r. r ≡ c.self.inside.source)) c.in-Some-rows.is c.self.invariant.1 ∙ c.self.view_is in
     λ xs is. after_matches m xs c.args.text.now c.args.byte (λ i. omega (arith, c.type_inv.text i)) (omega arith)
     (subst (λ (x : NfaValue). IsTrue c.in-Some-can_match_after.can_match ↔ MatchesAfter x (c.args.text.now ++ c.args.byte ∷ [])) made_for c.in-Some-can_match_after.ensures.some) is
 
@@ -42,8 +42,8 @@ returns-clause-visits c =
     let is : c.deref-2.result.now.nfa ≡ m = ap (λ (v : LazyDfaValue). v.nfa) c.deref-2.ensures ∙ c.self.invariant.0 ∙ c.self.view_is in
     let positions = length c.args.text.now + 2 in
     let looks : c.match-self.visits ≤ c.args.visits.now + 2 * positions = elim c.match-self.branch [
-      | in-Some+in_default-can_match_after w ↦ omega (arith, w.visits-is, w.can_match_after.ensures.missed w.in_default-can_match_after.is)
-      | in_default w ↦ omega (arith, w.visits-is)
+      | in-Some-rows+in_default-can_match_after w ↦ omega (arith, w.visits-is, w.can_match_after-in-Some-rows.ensures.missed w.in_default-can_match_after.is)
+      | in_default-rows w ↦ omega (arith, w.visits-is)
     ] in
     let some : 1 ≤ length m.starts = subst (λ (x : NfaValue). 1 ≤ length x.starts) (ap (λ (v : LazyDfaValue). v.nfa) (c.deref.ensures ∙ sym c.deref-2.ensures) ∙ is) (c.has_starts.ensures.some c.if-not-has_starts.false) in
     stepped_within positions c.args.visits.now c.match-self.visits c.can_match_after-2.new.visits (size m) (length m.starts) looks (subst (λ (x : NfaValue). c.can_match_after-2.new.visits ≤ c.match-self.visits + positions * size x) is c.can_match_after-2.ensures.visits) some

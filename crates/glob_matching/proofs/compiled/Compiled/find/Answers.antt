@@ -8,14 +8,14 @@ use Rattle.glob_matching.specs.inner.Found.{AddsReached, AddsSome}
 use Rattle.glob_matching.proofs.lemmas.Compiled.{adds_matches, on_ok}
 use Rattle.glob_matching.proofs.lemmas.Rows.{adds_nothing, adds_rest, none_added, stepped_within}
 use Rattle.glob_matching.proofs.compiled.Compiled.find.Goals as goal
-use Rattle.glob_matching.proofs.compiled.Compiled.find.Goals.{in-Some+else-find, in_default}
+use Rattle.glob_matching.proofs.compiled.Compiled.find.Goals.{in-Some-rows+else-find, in_default-rows}
 
 pub returns-then-find-clause-found : goal.returns-then-find-clause-found
 returns-then-find-clause-found c =
     let m = c.args.self.now in
-    let made_for : c.in-Some.rows ≡ m = subst (λ (o : Option NfaValue). IfSome o (λ r. r ≡ c.self.inside.source)) c.in-Some.is c.self.invariant.1 ∙ c.self.view_is in
-    adds_matches m c.args.text.now c.args.found.now c.find.new.found (λ i. omega (arith, c.type_inv.text i))
-    (subst (λ (x : NfaValue). AddsReached x c.args.text.now c.args.found.now c.find.new.found) made_for (c.find.ensures.found c.if-find.true))
+    let made_for : c.in-Some-rows.rows ≡ m = subst (λ (o : Option NfaValue). IfSome o (λ r. r ≡ c.self.inside.source)) c.in-Some-rows.is c.self.invariant.1 ∙ c.self.view_is in
+    adds_matches m c.args.text.now c.args.found.now c.find-in-Some-rows.new.found (λ i. omega (arith, c.type_inv.text i))
+    (subst (λ (x : NfaValue). AddsReached x c.args.text.now c.args.found.now c.find-in-Some-rows.new.found) made_for (c.find-in-Some-rows.ensures.found c.if-find.true))
 
 pub returns-then-leads_to_none-clause-found : goal.returns-then-leads_to_none-clause-found
 returns-then-leads_to_none-clause-found c =
@@ -37,10 +37,10 @@ returns-clause-found c =
     let before = c.args.found.now in
     let is : c.deref.result.now.nfa ≡ m = ap (λ (v : LazyDfaValue). v.nfa) c.deref.ensures ∙ c.self.invariant.0 ∙ c.self.view_is in
     let some : AddsSome m text before c.match-self.found = elim c.match-self.branch [
-      | in-Some+else-find w ↦
-          let made_for : w.in-Some.rows ≡ m = subst (λ (o : Option NfaValue). IfSome o (λ r. r ≡ c.self.inside.source)) w.in-Some.is c.self.invariant.1 ∙ c.self.view_is in
-          subst (λ (x : IndexSet). AddsSome m text before x) (sym w.found-is) (subst (λ (x : NfaValue). AddsSome x text before w.find.new.found) made_for w.find.ensures.some)
-      | in_default w ↦ subst (λ (x : IndexSet). AddsSome m text before x) (sym w.found-is) (adds_nothing m text before)
+      | in-Some-rows+else-find w ↦
+          let made_for : w.in-Some-rows.rows ≡ m = subst (λ (o : Option NfaValue). IfSome o (λ r. r ≡ c.self.inside.source)) w.in-Some-rows.is c.self.invariant.1 ∙ c.self.view_is in
+          subst (λ (x : IndexSet). AddsSome m text before x) (sym w.found-is) (subst (λ (x : NfaValue). AddsSome x text before w.find-in-Some-rows.new.found) made_for w.find-in-Some-rows.ensures.some)
+      | in_default-rows w ↦ subst (λ (x : IndexSet). AddsSome m text before x) (sym w.found-is) (adds_nothing m text before)
     ] in
     on_ok c.find-2.result (λ found. adds_matches m text before c.find-2.new.found (λ i. omega (arith, c.type_inv.text i))
     (adds_rest m text before c.match-self.found c.find-2.new.found some (subst (λ (x : NfaValue). AddsReached x text c.match-self.found c.find-2.new.found) is found))) c.find-2.ensures.found
@@ -51,8 +51,8 @@ returns-clause-visits c =
     let is : c.deref.result.now.nfa ≡ m = ap (λ (v : LazyDfaValue). v.nfa) c.deref.ensures ∙ c.self.invariant.0 ∙ c.self.view_is in
     let positions = length c.args.text.now + 1 in
     let looks : c.match-self.visits ≤ c.args.visits.now + 2 * positions = elim c.match-self.branch [
-      | in-Some+else-find w ↦ omega (arith, w.visits-is, w.find.ensures.missed w.if-find.false, c.leads_to_none.ensures.visits)
-      | in_default w ↦ omega (arith, w.visits-is, c.leads_to_none.ensures.visits)
+      | in-Some-rows+else-find w ↦ omega (arith, w.visits-is, w.find-in-Some-rows.ensures.missed w.if-find.false, c.leads_to_none.ensures.visits)
+      | in_default-rows w ↦ omega (arith, w.visits-is, c.leads_to_none.ensures.visits)
     ] in
     stepped_within positions c.args.visits.now c.match-self.visits c.find-2.new.visits (size m) (length m.starts) looks (subst (λ (x : NfaValue). c.find-2.new.visits ≤ c.match-self.visits + positions * size x) is c.find-2.ensures.visits)
     (c.leads_to_none.ensures.starts c.if-leads_to_none.false)

@@ -6,12 +6,12 @@ use Rattle.lazy_dfa.specs.LazyDfaValue.{LazyDfaValue}
 use Rattle.glob_matching.proofs.lemmas.Compiled.{if_ok, tells_match}
 use Rattle.glob_matching.proofs.lemmas.Rows.{none_matches, stepped_within}
 use Rattle.glob_matching.proofs.compiled.Compiled.is_match.Goals as goal
-use Rattle.glob_matching.proofs.compiled.Compiled.is_match.Goals.{in-Some+in_default-is_match, in_default}
+use Rattle.glob_matching.proofs.compiled.Compiled.is_match.Goals.{in-Some-rows+in_default-is_match, in_default-rows}
 
 pub returns-in-Some-is_match-clause-some : goal.returns-in-Some-is_match-clause-some
 returns-in-Some-is_match-clause-some c =
     let m = c.args.self.now in
-    let made_for : c.in-Some.rows ≡ m = subst (λ (o : Option NfaValue). IfSome o (λ r. r ≡ c.self.inside.source)) c.in-Some.is c.self.invariant.1 ∙ c.self.view_is in
+    let made_for : c.in-Some-rows.rows ≡ m = subst (λ (o : Option NfaValue). IfSome o (λ r. r ≡ c.self.inside.source)) c.in-Some-rows.is c.self.invariant.1 ∙ c.self.view_is in
     tells_match m c.args.text.now c.in-Some-is_match.is_match (λ i. omega (arith, c.type_inv.text i))
     (subst (λ (x : NfaValue). IsTrue c.in-Some-is_match.is_match ↔ ((k : ℕ) × IsReached x c.args.text.now k)) made_for c.in-Some-is_match.ensures.some)
 
@@ -37,8 +37,8 @@ returns-clause-visits c =
     let is : c.deref.result.now.nfa ≡ m = ap (λ (v : LazyDfaValue). v.nfa) c.deref.ensures ∙ c.self.invariant.0 ∙ c.self.view_is in
     let positions = length c.args.text.now + 1 in
     let looks : c.match-self.visits ≤ c.args.visits.now + 2 * positions = elim c.match-self.branch [
-      | in-Some+in_default-is_match w ↦ omega (arith, w.visits-is, w.is_match.ensures.missed w.in_default-is_match.is, c.leads_to_none.ensures.visits)
-      | in_default w ↦ omega (arith, w.visits-is, c.leads_to_none.ensures.visits)
+      | in-Some-rows+in_default-is_match w ↦ omega (arith, w.visits-is, w.is_match-in-Some-rows.ensures.missed w.in_default-is_match.is, c.leads_to_none.ensures.visits)
+      | in_default-rows w ↦ omega (arith, w.visits-is, c.leads_to_none.ensures.visits)
     ] in
     stepped_within positions c.args.visits.now c.match-self.visits c.is_match-2.new.visits (size m) (length m.starts) looks (subst (λ (x : NfaValue). c.is_match-2.new.visits ≤ c.match-self.visits + positions * size x) is c.is_match-2.ensures.visits)
     (c.leads_to_none.ensures.starts c.if-leads_to_none.false)

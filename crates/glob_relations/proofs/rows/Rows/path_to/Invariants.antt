@@ -1,16 +1,17 @@
-use Rattle.std.proofs.Common.{ℕ, ◌<◌, [], length}
+use Rattle.std.proofs.Common.{◌≡◌, ℕ, ◌+◌, ◌<◌, [], length}
 use Rattle.std.specs.Prelude.{reverse}
 use Rattle.bit_sets.specs.Texts.{AllBytes}
 use Rattle.byte_nfa.specs.Steps.{NfaValue}
 use Rattle.glob_relations.specs.declared.domain.Domain.{Domain}
 use Rattle.glob_relations.specs.declared.rows.Row.{Row}
-use Rattle.glob_relations.specs.inner.Rows.{AreRows, HasRow, WantsRow}
+use Rattle.glob_relations.specs.inner.Rows.{AreRows, HasRow, IsDeep, WantsRow}
 use Rattle.glob_relations.proofs.rows.Rows.path_to.Given as goal
 
 abbrev pub invariant-loop-at : goal.invariant-loop-at
 invariant-loop-at l = record {
   within : l.at < length l.self.seen.keys;
   bytes : AllBytes (reverse l.path.items);
+  deep : (depth : ℕ) → IsDeep l.self depth l.number → (d : ℕ) × IsDeep l.self d l.at × (d + length l.path.items ≡ depth);
   leads : (m : NfaValue) (n : ℕ) (domain : Domain) (row : Row) → AreRows m domain l.self → HasRow l.self l.number row → WantsRow m n row []
       → (p : Row) × HasRow l.self l.at p × WantsRow m n p (reverse l.path.items);
 }

@@ -20,7 +20,7 @@ returns-then-branch-clause-some c = λ t are.
 pub returns-clause-some : goal.returns-clause-some
 returns-clause-some c =
     let folder = c.args.folder.now in
-    IfOk-weaker c.can_match_after.result
+    IfOk-weaker c.can_match_after-2.result
     (λ yes. (by_slot : ℕ → List IndexedTokens) → AreFor c.self.inside.extensions.nfas by_slot → IsTrue yes ↔ SomeExtensionAfter (length c.self.inside.extensions.nfas) by_slot (folder_start folder))
     (λ yes. (t : TokenLists) → AreForLists c.args.self.now t → IsTrue yes ↔ AreFoundBelow c.args.self.now.extensions t folder)
     (λ yes tells t are.
@@ -30,10 +30,10 @@ returns-clause-some c =
     (λ found. true≢false (sym (c.self.invariant.component.1 ((some_text c.self.inside.by_component t.by_component inside.component).1 found)) ∙ c.if-self.false))
     (λ found. true≢false (sym ((c.in_ok-can_match_after.ensures.some t.by_path inside.path).1 found) ∙ c.if-branch.false))
     (tells t.by_slot inside.matchers)))
-    c.can_match_after.ensures.some
+    c.can_match_after-2.ensures.some
 
 pub returns-clause-memory : goal.returns-clause-memory
 returns-clause-memory c = λ none.
     let reads = ap (λ (a : AutomataParts). total_reads a.extensions.nfas) c.self.view_is in
     let few = max_within c.self.inside.extensions.nfas in
-    c.can_match_after.ensures.room (omega (arith, none, reads, few))
+    c.can_match_after-2.ensures.room (omega (arith, none, reads, few))

@@ -1,0 +1,237 @@
+//! Globs of a list that never decide.
+
+ghost use Rattle.std.specs.Prelude.{◌≡◌, ℕ, ◌+◌, ◌-◌, ◌<◌, ◌≤◌, ◌∷◌, ◌++◌, [], length, take, drop, Contains, slice_get, Some, IfOk, IsOkUnless};
+ghost use Rattle.std.specs.List.{range_with_len};
+ghost use Rattle.glob_strategy.specs.IndexedTokens.{IsFor};
+ghost use Rattle.glob_text.specs.Errors.{out_of_memory};
+ghost use Rattle.glob_text.specs.GlobMatches.{GlobValue};
+ghost use Rattle.glob_relations.specs.Answers.{TellsCovering, IsCovered};
+ghost use Rattle.glob_relations.specs.Unused.{globs_at, rivals, TellsReachability};
+ghost use Rattle.glob_relations.specs.inner.Automata.{indexed_glob, indexed_globs};
+
+use crate::domain::Domain;
+use crate::relations::{Coverage, add, coverage_of};
+use crate::search::search;
+use byte_nfa::Nfa;
+use glob_strategy::new_builder;
+use globset_glob::{Error, Glob};
+use std::alloc::{AllocError, Global};
+
+/// Which of the globs of a list that match a path decides.
+#[derive(Clone, Copy)]
+pub enum Decides {
+    /// The first of them.
+    First,
+    /// The last of them.
+    Last,
+}
+
+/// Whether a glob of a list ever decides.
+#[derive(Drop)]
+pub enum Reachability {
+    /// It decides for this path of the domain, and for no shorter one.
+    Decides(Vec<u8>),
+    /// It decides for no path of the domain: the globs at these indexes, of those that come before it where the first decides, and
+    /// after it where the last does, cover it. None of them can be left out. There is one index, or none, if one glob, or none,
+    /// covers it.
+    Never(Vec<usize>),
+    /// There are more rows than the limit.
+    Unknown,
+}
+
+/// Returns for each glob of a list whether it ever decides for a path of a domain, and else which others cover it.
+///
+/// For each glob it searches as [`covering`] does, by all others that can decide in its place. For a glob that never decides it searches
+/// once more for each of these alone, and then, unless one covers it, once for each by those that are left. Each search has the limit.
+/// Returns an error if memory runs out.
+///
+/// [`covering`]: crate::covering
+pub fn unreachable(
+    alloc: Global,
+    globs: &[Glob],
+    decides: Decides,
+    domain: Domain,
+    limit: usize,
+) -> Result<Vec<Reachability>, Error>
+    ensures len { IfOk result (λ all. length all.items ≡ length globs.now) }
+    ensures each { IfOk result
+        (λ all. (i : ℕ) (g : GlobValue) (told : Reachability)
+        → slice_get globs.now i ≡ Some g → slice_get all.items i ≡ Some told
+        → TellsReachability globs.now g (rivals decides i (length globs.now)) domain limit told) }
+    ensures err { IsOkUnless result out_of_memory }
+{
+    let mut all = Vec::new(alloc);
+    for i in 0..globs.len() {
+        all.push(find_reachability(alloc, globs, i, decides, domain, limit)?)?;
+    }
+    Ok(all)
+}
+
+/// Returns whether a glob of a list ever decides.
+fn find_reachability(
+    alloc: Global,
+    globs: &[Glob],
+    i: usize,
+    decides: Decides,
+    domain: Domain,
+    limit: usize,
+) -> Result<Reachability, Error>
+    requires { i < length globs.now }
+    ensures told { IfOk result
+        (λ told. (g : GlobValue) → slice_get globs.now i ≡ Some g
+        → TellsReachability globs.now g (rivals decides i (length globs.now)) domain limit told) }
+    ensures err { IsOkUnless result out_of_memory }
+{
+    let glob = &globs[i];
+    let others = rivals(alloc, decides, i, globs.len())?;
+    match covering_at(alloc, glob, globs, &others, domain, limit)? {
+        Coverage::Covered => cover(alloc, glob, globs, &others, domain, limit),
+        Coverage::Not(path) => Ok(Reachability::Decides(path)),
+        Coverage::Unknown => Ok(Reachability::Unknown),
+    }
+}
+
+/// Returns the indexes of the globs that can decide in the place of a glob.
+fn rivals(alloc: Global, decides: Decides, i: usize, count: usize) -> Result<Vec<usize>, AllocError>
+    requires { i < count }
+    ensures { IfOk result (λ indexes. indexes.items ≡ rivals decides i count) }
+{
+    match decides {
+        Decides::First => numbers(alloc, 0, i),
+        Decides::Last => numbers(alloc, i + 1, count),
+    }
+}
+
+/// Returns the numbers from one to below another.
+fn numbers(alloc: Global, low: usize, high: usize) -> Result<Vec<usize>, AllocError>
+    requires { low ≤ high }
+    ensures { IfOk result (λ all. all.items ≡ range_with_len low (high - low)) }
+{
+    let mut all = Vec::new(alloc);
+    for k in low..high {
+        all.push(k)?;
+    }
+    Ok(all)
+}
+
+/// Returns whether some of other globs, at these indexes, have to be there for a glob to be covered, and which.
+fn cover(
+    alloc: Global,
+    glob: &Glob,
+    globs: &[Glob],
+    others: &[usize],
+    domain: Domain,
+    limit: usize,
+) -> Result<Reachability, Error>
+    requires within { (k : ℕ) → Contains others.now k → k < length globs.now }
+    requires covered { IsCovered glob.now (globs_at globs.now others.now) domain }
+    ensures told { IfOk result (TellsReachability globs.now glob.now others.now domain limit) }
+    ensures err { IsOkUnless result out_of_memory }
+{
+    match covering_at(alloc, glob, globs, &[], domain, limit)? {
+        Coverage::Covered => Ok(Reachability::Never(Vec::new(alloc))),
+        Coverage::Not(_) => cover_of_some(alloc, glob, globs, others, domain, limit),
+        Coverage::Unknown => Ok(Reachability::Unknown),
+    }
+}
+
+/// Returns a glob that covers another by itself, or else several that do.
+fn cover_of_some(
+    alloc: Global,
+    glob: &Glob,
+    globs: &[Glob],
+    others: &[usize],
+    domain: Domain,
+    limit: usize,
+) -> Result<Reachability, Error>
+    requires within { (k : ℕ) → Contains others.now k → k < length globs.now }
+    requires covered { IsCovered glob.now (globs_at globs.now others.now) domain }
+    requires some { IsCovered glob.now [] domain → ⊥ }
+    ensures told { IfOk result (TellsReachability globs.now glob.now others.now domain limit) }
+    ensures err { IsOkUnless result out_of_memory }
+{
+    for k in others {
+        match covering_at(alloc, glob, globs, &[*k], domain, limit)? {
+            Coverage::Covered => return Ok(Reachability::Never(Vec::from_array(alloc, [*k])?)),
+            Coverage::Not(_) => {}
+            Coverage::Unknown => return Ok(Reachability::Unknown),
+        }
+    }
+    least_cover(alloc, glob, globs, others, domain, limit)
+}
+
+/// Returns several globs that cover another, of which none can be left out. It tries to leave out one after another.
+fn least_cover(
+    alloc: Global,
+    glob: &Glob,
+    globs: &[Glob],
+    others: &[usize],
+    domain: Domain,
+    limit: usize,
+) -> Result<Reachability, Error>
+    requires within { (k : ℕ) → Contains others.now k → k < length globs.now }
+    requires covered { IsCovered glob.now (globs_at globs.now others.now) domain }
+    requires single { (k : ℕ) → Contains others.now k → IsCovered glob.now (globs_at globs.now (k ∷ [])) domain → ⊥ }
+    ensures told { IfOk result (TellsReachability globs.now glob.now others.now domain limit) }
+    ensures err { IsOkUnless result out_of_memory }
+{
+    let mut set = Vec::new(alloc);
+    set.extend_from_slice(others)?;
+    let mut i = 0;
+    while i < set.len() {
+        let fewer = without(alloc, &set, i)?;
+        match covering_at(alloc, glob, globs, &fewer, domain, limit)? {
+            Coverage::Covered => set = fewer,
+            Coverage::Not(_) => i += 1,
+            Coverage::Unknown => return Ok(Reachability::Unknown),
+        }
+    }
+    Ok(Reachability::Never(set))
+}
+
+/// Returns the numbers of a list without that at a place.
+fn without(alloc: Global, list: &[usize], place: usize) -> Result<Vec<usize>, AllocError>
+    requires { place < length list.now }
+    ensures { IfOk result
+        (λ rest. rest.items ≡ take place list.now ++ drop (place + 1) list.now) }
+{
+    let before = &list[..place];
+    let after = &list[place + 1..];
+    let mut rest = Vec::new(alloc);
+    rest.extend_from_slice(before)?;
+    rest.extend_from_slice(after)?;
+    Ok(rest)
+}
+
+/// Returns whether each path of a domain that a glob matches is matched by some of the globs of a list at these indexes.
+fn covering_at(
+    alloc: Global,
+    glob: &Glob,
+    globs: &[Glob],
+    by: &[usize],
+    domain: Domain,
+    limit: usize,
+) -> Result<Coverage, Error>
+    requires { (k : ℕ) → Contains by.now k → k < length globs.now }
+    ensures ok { IfOk result
+        (TellsCovering glob.now (globs_at globs.now by.now) domain limit) }
+    ensures err { IsOkUnless result out_of_memory }
+{
+    let automaton = automaton_at(alloc, glob, globs, by)?;
+    let answer = search(alloc, &automaton, 1, domain, limit)?;
+    Ok(coverage_of(answer))
+}
+
+/// Returns an automaton in which a glob has the index 0, and each of the globs of a list at these indexes has the index 1.
+fn automaton_at(alloc: Global, glob: &Glob, globs: &[Glob], by: &[usize]) -> Result<Nfa, AllocError>
+    requires { (k : ℕ) → Contains by.now k → k < length globs.now }
+    ensures { IfOk result
+        (λ m. IsFor m (indexed_glob 0 glob.now ∷ indexed_globs 1 (globs_at globs.now by.now))) }
+{
+    let mut builder = new_builder(alloc, 2);
+    add(alloc, &mut builder, glob, 0)?;
+    for k in by {
+        add(alloc, &mut builder, &globs[*k], 1)?;
+    }
+    Ok(builder.finish())
+}
