@@ -67,7 +67,7 @@ impl Table {
         }
     }
 
-    /// Returns the indexes under a keyin the order of the additions, or none if the table does not have the key.
+    /// Returns the indexes under a key in the order of the additions, or none if the table does not have the key.
     ///
     /// It is a visit, and copies nothing. `compared` counts the keys that `key` is compared with: with fewer than `2^k` entries
     /// these are at most `k`, or at most 8 if `k` is less. A comparison reads at most `key.len()` bytes of another key.

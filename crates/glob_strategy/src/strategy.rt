@@ -28,7 +28,7 @@ pub enum MatchStrategy {
     Excluded,
     /// The glob matches the paths that the key matches. The key's bytes are literals of the glob.
     Key(Key),
-    /// The glob matches only paths whose last component has this extensionand whose bytes before the extension match
+    /// The glob matches only paths whose last component has this extension and whose bytes before the extension match
     /// [`tokens_before_ending`]. An automaton for these tokens matches the bytes.
     RequiredExtension(Vec<u8>),
     /// The glob matches the paths whose last component matches [`tokens_after_prefix`]. An automaton for these tokens matches the

@@ -25,7 +25,7 @@ use std::alloc::Global;
 /// `-n`, at any position, turns on numbered output. `--` ends these flags: each argument after it is a glob. Before it any other
 /// argument that starts with `-` is rejected, and all others are globs.
 ///
-/// With `--set` the next argumentis in any case the JSON text of an array of globs, and each other argument has to be `-n`. The
+/// With `--set` the next argument is in any case the JSON text of an array of globs, and each other argument has to be `-n`. The
 /// text is read after all other arguments were checked.
 ///
 /// Fails with the first error from the left.
