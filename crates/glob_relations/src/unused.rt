@@ -1,15 +1,17 @@
 //! Globs of a list that never decide.
 
-ghost use Rattle.std.specs.Prelude.{◌≡◌, ℕ, ◌+◌, ◌-◌, ◌<◌, ◌≤◌, ◌∷◌, ◌++◌, [], length, take, drop, Contains, slice_get, Some, IfOk, IsOkUnless};
+ghost use Rattle.std.specs.Prelude.{◌≡◌, ℕ, ◌+◌, ◌-◌, ◌<◌, ◌≤◌, ◌∷◌, ◌++◌, [], length, take, drop, Contains, slice_get, Some, IfOk, IfSome, IsOkUnless};
 ghost use Rattle.std.specs.List.{range_with_len};
 ghost use Rattle.glob_strategy.specs.IndexedTokens.{IsFor};
 ghost use Rattle.glob_text.specs.Errors.{out_of_memory};
 ghost use Rattle.glob_text.specs.GlobMatches.{GlobValue};
-ghost use Rattle.glob_relations.specs.Answers.{TellsCovering, IsCovered};
+ghost use Rattle.glob_relations.specs.Answers.{TellsCovering, IsCovered, IsMissed};
+ghost use Rattle.glob_relations.specs.Shortest.{IsShortest};
 ghost use Rattle.glob_relations.specs.Unused.{globs_at, rivals, TellsReachability};
 ghost use Rattle.glob_relations.specs.inner.Automata.{indexed_glob, indexed_globs};
 
 use crate::domain::Domain;
+use crate::pass::is_reached;
 use crate::relations::{Coverage, add, coverage_of};
 use crate::search::search;
 use byte_nfa::Nfa;
@@ -41,7 +43,8 @@ pub enum Reachability {
 
 /// Returns for each glob of a list whether it ever decides for a path of a domain, and else which others cover it.
 ///
-/// For each glob it searches as [`covering`] does, by all others that can decide in its place. For a glob that never decides it searches
+/// For each glob it tries a shortest path that this glob matches. If others that can decide in its place match that, it searches as
+/// [`covering`] does, by all of these. For a glob that never decides it searches
 /// once more for each of these alone, and then, unless one covers it, once for each by those that are left. Each search has the limit.
 /// Returns an error if memory runs out.
 ///
@@ -84,11 +87,40 @@ fn find_reachability(
 {
     let glob = &globs[i];
     let others = rivals(alloc, decides, i, globs.len())?;
+    if let Some(path) = short_path(alloc, glob, globs, &others, domain, limit)? {
+        return Ok(Reachability::Decides(path));
+    }
     match covering_at(alloc, glob, globs, &others, domain, limit)? {
         Coverage::Covered => cover(alloc, glob, globs, &others, domain, limit),
         Coverage::Not(path) => Ok(Reachability::Decides(path)),
         Coverage::Unknown => Ok(Reachability::Unknown),
     }
+}
+
+/// Returns a shortest path that a glob matches, unless others match it, too. This is a shortest one that these do not match, and is found
+/// without a search through their states.
+fn short_path(
+    alloc: Global,
+    glob: &Glob,
+    globs: &[Glob],
+    others: &[usize],
+    domain: Domain,
+    limit: usize,
+) -> Result<Option<Vec<u8>>, Error>
+    requires { (k : ℕ) → Contains others.now k → k < length globs.now }
+    ensures ok { IfOk result
+        (λ found. IfSome found
+        (λ path. IsShortest (IsMissed glob.now (globs_at globs.now others.now) domain) path.items)) }
+    ensures err { IsOkUnless result out_of_memory }
+{
+    let Coverage::Not(path) = covering_at(alloc, glob, globs, &[], domain, limit)? else {
+        return Ok(None);
+    };
+    let automaton = automaton_at(alloc, glob, globs, others)?;
+    if is_reached(alloc, &automaton, &path, 1)? {
+        return Ok(None);
+    }
+    Ok(Some(path))
 }
 
 /// Returns the indexes of the globs that can decide in the place of a glob.

@@ -89,6 +89,21 @@ module _ (m : NfaValue) (g : GlobValue) (by : List GlobValue) (domain : Domain) 
       reaches : (k : ℕ) → AllBytes path → IsReached m path k ↔ SomeMatches (indexed_glob 0 g ∷ indexed_globs 1 by) path k
       reaches k bytes = reached m (indexed_glob 0 g ∷ indexed_globs 1 by) is path k bytes
 
+  -- the index 1 is reached exactly if some of the others matches
+  pub others_reached : (path : List ℕ) → AllBytes path → IsReached m path 1 ↔ IsTrue (some_match by path)
+  others_reached path bytes = (
+    λ reach. ⊎_elim {C = IsTrue (some_match by path)} (λ (e, h). absurd (omega arith)) (λ other. (some_back 1 by path 1 other).1)
+        (one_back 0 g (indexed_globs 1 by) path 1 ((reached m (indexed_glob 0 g ∷ indexed_globs 1 by) is path 1 bytes).0 reach)),
+    λ h. (reached m (indexed_glob 0 g ∷ indexed_globs 1 by) is path 1 bytes).1 (inr (some_there 1 by path h)),
+  )
+
+  -- a shortest path that the glob matches, and none of the others
+  pub shortest_alone : (path : List ℕ) → IsShortest (IsMissed g [] domain) path → (IsReached m path 1 → ⊥) → IsShortest (IsMissed g by domain) path
+  shortest_alone path ((inside, matched, off), least) none = (
+    (inside, matched, is_false (some_match by path) (λ h. none ((others_reached path ((is_in domain path).0 inside).0).1 h))),
+    λ other (inside', matched', off'). least other (inside', matched', refl),
+  )
+
   pub told_covering : (limit : ℕ) (answer : Answer) → TellsSearch m 1 domain limit answer → TellsCovering g by domain limit (coverage_of answer)
   told_covering limit (Found path) found = shortest_same (IsWantedText m 1 domain) (IsMissed g by domain) path.items wanted_missed found
   told_covering limit Nothing none = λ path inside matched. is_true (some_match by path) (λ off. none path ((wanted_missed path).1 (inside, matched, off)))

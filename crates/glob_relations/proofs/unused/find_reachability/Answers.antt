@@ -8,9 +8,13 @@ use Rattle.glob_relations.specs.declared.unused.Reachability.TheVariants.{Decide
 use Rattle.glob_relations.proofs.lemmas.Unused.{if_ok_more, rivals_below, told_same}
 use Rattle.glob_relations.proofs.unused.find_reachability.Goals as goal
 
+pub short_path-requires : goal.short_path-requires
+short_path-requires c = λ k at.
+    rivals_below c.args.decides c.args.i (length c.args.globs.now) k c.requires (subst (λ (xs : List ℕ). Contains xs k) (c.deref.ensures.value ∙ c.in_ok-others.ensures) at)
+
 pub covering_at-requires : goal.covering_at-requires
 covering_at-requires c = λ k at.
-    rivals_below c.args.decides c.args.i (length c.args.globs.now) k c.requires (subst (λ (xs : List ℕ). Contains xs k) (c.deref.ensures.value ∙ c.in_ok-others.ensures) at)
+    rivals_below c.args.decides c.args.i (length c.args.globs.now) k c.requires (subst (λ (xs : List ℕ). Contains xs k) (c.deref-2.ensures.value ∙ c.in_ok-others.ensures) at)
 
 pub cover-requires-clause-within : goal.cover-requires-clause-within
 cover-requires-clause-within c = λ k at.
@@ -32,16 +36,16 @@ pub returns-in-Not-clause-told : goal.returns-in-Not-clause-told
 returns-in-Not-clause-told c = λ g at.
     let gs : List GlobValue = c.args.globs.now in
     let h = c.index-globs-i.result in
-    let now = c.deref.result.now in
+    let now = c.deref-2.result.now in
     let ok = rw c.in-Not.is at c.in_ok-covering_at.ensures.ok in
-    told_same gs g h now (rivals c.args.decides c.args.i (length gs)) c.args.domain c.args.limit (c.index-globs-i.is ∙ get_or_from_slice_get gs c.args.i g h at) (c.deref.ensures.value ∙ c.in_ok-others.ensures)
+    told_same gs g h now (rivals c.args.decides c.args.i (length gs)) c.args.domain c.args.limit (c.index-globs-i.is ∙ get_or_from_slice_get gs c.args.i g h at) (c.deref-2.ensures.value ∙ c.in_ok-others.ensures)
     (DecidesFor c.in-Not.path) ok
 
 pub returns-clause-told : goal.returns-clause-told
 returns-clause-told c = λ g at.
     let gs : List GlobValue = c.args.globs.now in
     let h = c.index-globs-i.result in
-    let now = c.deref.result.now in
+    let now = c.deref-2.result.now in
     let ok = rw c.in-Unknown.is at c.in_ok-covering_at.ensures.ok in
-    told_same gs g h now (rivals c.args.decides c.args.i (length gs)) c.args.domain c.args.limit (c.index-globs-i.is ∙ get_or_from_slice_get gs c.args.i g h at) (c.deref.ensures.value ∙ c.in_ok-others.ensures)
+    told_same gs g h now (rivals c.args.decides c.args.i (length gs)) c.args.domain c.args.limit (c.index-globs-i.is ∙ get_or_from_slice_get gs c.args.i g h at) (c.deref-2.ensures.value ∙ c.in_ok-others.ensures)
     Undecided (now, λ k in'. in', ok)
