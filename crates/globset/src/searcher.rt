@@ -263,7 +263,12 @@ impl Searcher {
             return false;
         };
         matcher
-            .can_match_below(folder.path(), &mut self.scratch.sets, &mut self.caches, visits)
+            .can_match_below(
+                folder.path(),
+                &mut self.scratch.sets,
+                &mut self.caches,
+                visits,
+            )
             .unwrap()
     }
 }

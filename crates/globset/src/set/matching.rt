@@ -216,12 +216,7 @@ impl GlobSet {
         let Some(matcher) = self.matcher() else {
             return Ok(false);
         };
-        Ok(matcher.is_match(
-            path,
-            &mut matcher.new_sets(),
-            &mut Caches::none(),
-            visits,
-        )?)
+        Ok(matcher.is_match(path, &mut matcher.new_sets(), &mut Caches::none(), visits)?)
     }
 
     /// Like [`GlobSet::is_match_visits`], but with a scratch: it does not allocate, and cannot fail.
@@ -457,7 +452,12 @@ impl GlobSet {
             return false;
         };
         matcher
-            .can_match_below(folder.path(), &mut scratch.sets, &mut Caches::none(), visits)
+            .can_match_below(
+                folder.path(),
+                &mut scratch.sets,
+                &mut Caches::none(),
+                visits,
+            )
             .unwrap()
     }
 }
