@@ -65,8 +65,8 @@ impl Compiled {
         self.rows.is_some()
     }
 
-    /// Returns a cache with no rows for this automaton, or `None` if there is no room for rows. All memory that it needs is taken here.
-    /// Returns an error if memory runs out.
+    /// Returns a cache with no rows for this automaton, or `None` if there is no room for rows. All memory that it needs is taken
+    /// here. Returns an error if memory runs out.
     pub fn new_cache(&self, alloc: Global) -> Result<Option<Cache>, AllocError>
         ensures { IfOk result (λ made. IfSome made (λ cache. cache ≡ self.now)) }
     {
@@ -120,8 +120,8 @@ impl Compiled {
 }
 
 impl Compiled {
-    /// Puts the indexes of the tokens that match a text into a set, next to its contents. It runs by the rows of the cache if there
-    /// is one, and else by rows that are kept, or stepped.
+    /// Puts the indexes of the tokens that match a text into a set, next to its contents. It reads the rows of the cache if there
+    /// is a cache. Otherwise it reads kept rows, or steps the automaton.
     ///
     /// It is at most `(text bytes + 1) * (states + 3 * starts)` visits. The old contents of the sets of states have no effect. If
     /// the automaton is stepped, their room grows to its states. It allocates nothing if they have room for all states. After an
@@ -161,7 +161,7 @@ impl Compiled {
 
     /// Returns whether tokens match a text.
     ///
-    /// What is said of the memory and the visits of [`Compiled::find`] holds for it.
+    /// It makes at most as many visits as [`Compiled::find`], and allocates when that does.
     pub fn is_match(
         &self,
         text: &[u8],
@@ -193,8 +193,8 @@ impl Compiled {
 
     /// Returns whether some tokens match a text that begins with `text` and then `byte`.
     ///
-    /// It is at most `(text bytes + 2) * (states + 3 * starts)` visits. What is said of the memory of [`Compiled::find`] holds for
-    /// it.
+    /// It is at most `(text bytes + 2) * (states + 3 * starts)` visits, and allocates when [`Compiled::find`]
+    /// does.
     pub fn can_match_after(
         &self,
         text: &[u8],

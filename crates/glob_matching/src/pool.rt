@@ -67,7 +67,7 @@ impl<X: Fits + Drop> Pool<X> {
         taken(&self.fourth)
     }
 
-    /// Puts a value in for later calls. Returns the value if there is no room that no other call is at.
+    /// Puts a value in for later calls. Returns the value if each slot is full or another call accesses it.
     pub fn give(&self, value: X) -> Option<X>
         requires { X.fits self.now value }
         ensures { IfSome result (λ x. x ≡ value) }

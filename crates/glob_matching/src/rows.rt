@@ -17,8 +17,8 @@ use std::marker::Model;
 use std::snapshot::Snapshot;
 use std::sync::Arc;
 
-/// What rows are made from, and the rows that calls share which have no cache of their own. Contracts see the automaton whose ends
-/// are found.
+/// What rows are made from, and the rows that calls share which have no cache of their own. Contracts see the automaton whose
+/// ends are found.
 #[derive(Drop)]
 pub struct RowSource {
     alloc: Global,
@@ -142,8 +142,8 @@ impl RowSource {
 
 impl RowSource {
     /// Puts the index of each end that a text leads to into a set, next to its contents. It reads the rows of the cache that was
-    /// published last, and where an entry is not known there, the rows of a kept cache. Returns whether there was a cache, or, if
-    /// the call may allocate, a new cache. If not, some of the indexes may be in the set.
+    /// published last, and where an entry is not known there, the rows of a kept cache. Returns `false` if
+    /// there was no such cache and the call could not make one; some of the indexes may be in the set then.
     pub fn find(
         &self,
         text: &[u8],

@@ -22,12 +22,12 @@ some_match gs path = list_any (λ g. glob_matches g path) gs
 abbrev pub IsCovered : GlobValue → List GlobValue → Domain → Type 0
 IsCovered g by domain = (path : List ℕ) → IsIn domain path → IsTrue (glob_matches g path) → IsTrue (some_match by path)
 
--- the path is one of the domain, which the glob matches, and none of the others
+-- the path is in the domain, the glob matches it, and none of the others does
 abbrev pub IsMissed : GlobValue → List GlobValue → Domain → List ℕ → Type 0
 IsMissed g by domain path = IsIn domain path × IsTrue (glob_matches g path) × IsFalse (some_match by path)
 
--- what is told is so: that the glob is covered; or that the path is a shortest one of those that are missed; or that paths lead to more
--- than `limit` different rows of an automaton for the globs
+-- The answer is right: the glob is covered; or the path is a shortest path that the others miss; or paths lead to more than
+-- `limit` different rows of an automaton for the globs.
 abbrev pub TellsCovering : GlobValue → List GlobValue → Domain → ℕ → Coverage → Type 0
 TellsCovering g by domain limit Covered = IsCovered g by domain
 TellsCovering g by domain limit (Not path) = IsShortest (IsMissed g by domain) path.items
@@ -37,12 +37,12 @@ TellsCovering g by domain limit Unknown = (m : NfaValue) × IsFor m (indexed_glo
 abbrev pub AreDisjoint : GlobValue → GlobValue → Domain → Type 0
 AreDisjoint a b domain = (path : List ℕ) → IsIn domain path → IsTrue (glob_matches a path) → IsTrue (glob_matches b path) → ⊥
 
--- the path is one of the domain, and both globs match it
+-- the path is in the domain, and both globs match it
 abbrev pub IsShared : GlobValue → GlobValue → Domain → List ℕ → Type 0
 IsShared a b domain path = IsIn domain path × IsTrue (glob_matches a path) × IsTrue (glob_matches b path)
 
--- what is told is so: that the globs are disjoint; or that the path is a shortest one of those that both match; or that paths lead to
--- more than `limit` different rows of an automaton for the globs
+-- The answer is right: the globs are disjoint; or the path is a shortest path that both match; or paths lead to more than `limit`
+-- different rows of an automaton for the globs.
 abbrev pub TellsOverlap : GlobValue → GlobValue → Domain → ℕ → Intersection → Type 0
 TellsOverlap a b domain limit Disjoint = AreDisjoint a b domain
 TellsOverlap a b domain limit (Both path) = IsShortest (IsShared a b domain) path.items

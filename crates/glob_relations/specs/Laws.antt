@@ -23,7 +23,8 @@ DisjointShareNone = (a b : GlobValue) (domain : Domain) → AreDisjoint a b doma
 abbrev pub included : List GlobValue → List GlobValue
 included gs = filter (λ g. not (excluded g)) gs
 
--- Where the other globs of a set that are not excluded cover one, the set without it matches the same paths of the domain.
+-- If other globs of a set, which are not excluded, cover a glob of it, then the set without that glob matches the same paths of
+-- the domain.
 abbrev pub CoveredIsNotNeeded : Type 0
 CoveredIsNotNeeded = (before after : List GlobValue) (g : GlobValue) (domain : Domain) → IsCovered g (included (before ++ after)) domain → (path : List ℕ) → IsIn domain path
     → (matching_indexes (before ++ g ∷ after) path ≡ []) ↔ (matching_indexes (before ++ after) path ≡ [])

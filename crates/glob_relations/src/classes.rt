@@ -10,8 +10,8 @@ use std::alloc::{AllocError, Global};
 
 /// Returns a byte of each class of bytes that all states of an automaton, and the places of domains, read alike.
 ///
-/// A class is a range of bytes. Classes with letters, digits or `/` come first, each by the lowest of these bytes. The others follow,
-/// each by its lowest byte.
+/// A class is a range of bytes. Classes with letters, digits or `/` come first, each by the lowest of these bytes. The others
+/// follow, each by its lowest byte.
 pub fn representatives(alloc: Global, automaton: &Nfa) -> Result<Vec<u8>, AllocError>
     ensures { IfOk result (λ bytes. AreRepresentatives automaton.now bytes.items) }
 {
@@ -33,7 +33,7 @@ pub fn representatives(alloc: Global, automaton: &Nfa) -> Result<Vec<u8>, AllocE
     Ok(bytes)
 }
 
-/// Returns a set that has each byte that is not read as the one after it is.
+/// Returns the set of the bytes that are not read like the byte after them.
 fn boundaries_of(automaton: &Nfa) -> ByteSet
     ensures { AreBoundaries automaton.now result }
 {
@@ -45,7 +45,7 @@ fn boundaries_of(automaton: &Nfa) -> ByteSet
         .with(b'/')
 }
 
-/// Returns whether a byte is the first of those that are read as it is, in a row.
+/// Returns whether a byte is the first of its class.
 fn begins_class(boundaries: &ByteSet, byte: u8) -> bool
     ensures { IsTrue result ↔ BeginsClass boundaries.now byte }
 {

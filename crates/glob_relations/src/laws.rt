@@ -17,8 +17,8 @@ pub fn disjoint_share_none()
     ensures { DisjointShareNone }
 {}
 
-/// If the other globs of a set cover one, `is_match` of the set without it returns the same for each path of the domain. Globs that
-/// a set excludes do not count among the others.
+/// If the other globs of a set cover one, `is_match` of the set without it returns the same for each path of the domain. Globs
+/// that a set excludes do not count among the others.
 pub fn covered_is_not_needed()
     ensures { CoveredIsNotNeeded }
 {}

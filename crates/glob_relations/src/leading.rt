@@ -9,7 +9,7 @@ use std::alloc::{AllocError, Global};
 
 /// Returns a mark for each state of an automaton: `false` only if no text leads from the state to an end of an index.
 ///
-/// It reads each state once, from the lowest on, since states lead to lower ones. A state without a mark counts as one that leads on.
+/// It reads each state once, from the lowest on, since states lead to lower ones. A state without a mark counts as marked.
 pub fn leading(alloc: Global, automaton: &Nfa, index: usize) -> Result<Vec<bool>, AllocError>
     ensures { IfOk result (λ marks. AreLeading automaton.now index marks.items) }
 {

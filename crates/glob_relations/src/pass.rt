@@ -29,7 +29,7 @@ pub fn step(automaton: &Nfa, states: &[usize], byte: u8, from: &mut StateSet, to
     step_set(automaton, byte, from, to);
 }
 
-/// Makes a set that of the states of a list.
+/// Makes a set hold the states of a list, and no others.
 fn load(automaton: &Nfa, states: &[usize], into: &mut StateSet)
     requires below { AreBelow (size automaton.now) states.now }
     requires capacity { size automaton.now ≤ state_capacity into.old }
@@ -42,10 +42,10 @@ fn load(automaton: &Nfa, states: &[usize], into: &mut StateSet)
     into.put_all(states);
 }
 
-/// Puts the states that a byte leads to from the states of a set into another set. What that held has no effect.
+/// Puts the states that a byte leads to from the states of a set into another set, whose old states have no effect.
 ///
-/// It takes each state at most once, from the highest on. What a state of `from` goes on to without a byte is put into `from`, before
-/// the pass comes to it.
+/// It takes each state at most once, from the highest on. What a state of `from` goes on to without a byte is put into `from`,
+/// before the pass comes to it.
 fn step_set(automaton: &Nfa, byte: u8, from: &mut StateSet, to: &mut StateSet)
     requires from_capacity { size automaton.now ≤ state_capacity from.old }
     requires to_capacity { size automaton.now ≤ state_capacity to.old }
@@ -66,8 +66,8 @@ fn step_set(automaton: &Nfa, byte: u8, from: &mut StateSet, to: &mut StateSet)
     }
 }
 
-/// Takes the steps of a state of `from`: puts into `from` what it goes on to without a byte, and into `to` what it goes on to by the
-/// byte.
+/// Takes the steps of a state of `from`: puts into `from` what it goes on to without a byte, and into `to` what it goes on to by
+/// the byte.
 fn take(automaton: &Nfa, s: usize, byte: u8, from: &mut StateSet, to: &mut StateSet)
     requires exists { s < size automaton.now }
     requires from_capacity { size automaton.now ≤ state_capacity from.old }
@@ -109,7 +109,8 @@ pub fn is_reached(
     Ok(ends.has(index))
 }
 
-/// Returns whether the states of a list lead to the ends of all indexes below a number without a byte, and to none of that number.
+/// Returns whether the states of a list lead to the ends of all indexes below a number without a byte, and to none of that
+/// number.
 pub fn is_wanted(
     automaton: &Nfa,
     required: usize,

@@ -37,8 +37,8 @@ pub enum Intersection {
     Unknown,
 }
 
-/// Returns whether each path of a domain that a glob matches is matched by some of other globs, or else a shortest path that is not.
-/// The path has letters, digits and `/` where other bytes in their place are read alike.
+/// Returns whether other globs together match each path of a domain that a glob matches, and otherwise a shortest path that they
+/// miss. The path has a letter, a digit or `/` wherever the globs read such a byte like the byte that is needed.
 ///
 /// Globs match here as their matchers do, also those that a set excludes. It returns [`Coverage::Unknown`] if paths lead to more
 /// than `limit` rows. A row is a set of states of the globs, and a place in the domain. Memory is at most linear in the rows,
@@ -58,7 +58,7 @@ pub fn covering(
     Ok(coverage_of(answer))
 }
 
-/// Returns what a search says of a glob and those that may cover it.
+/// Returns the coverage that a search found, for a glob and the globs that may cover it.
 pub(crate) fn coverage_of(answer: Answer) -> Coverage
     ensures { result ≡ coverage_of answer }
 {
@@ -69,7 +69,7 @@ pub(crate) fn coverage_of(answer: Answer) -> Coverage
     }
 }
 
-/// Returns whether two globs match no path of a domain in common, or else a shortest path that both match.
+/// Returns whether two globs match no path of a domain in common, and otherwise a shortest path that both match.
 ///
 /// It has the limit and the cost of [`covering`]. Fails only if memory runs out.
 pub fn overlap(

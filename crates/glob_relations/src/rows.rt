@@ -15,7 +15,7 @@ pub struct Row {
     pub states: Vec<usize>,
 }
 
-/// Where a row came from: the byte that led to it, and the number of the row that it was read in.
+/// The origin of a row: the byte that led to it, and the number of the row in which the byte was read.
 #[derive(Clone, Copy)]
 pub struct Origin {
     pub row: usize,
@@ -26,7 +26,7 @@ pub struct Origin {
 #[derive(Drop)]
 pub struct Rows {
     pub seen: IndexSet<Row>,
-    /// Where each row came from. The first has an origin of no meaning.
+    /// The origin of each row. The origin of the first row means nothing.
     pub origins: Vec<Origin>,
 }
 

@@ -54,7 +54,8 @@ impl Memory {
     }
 }
 
-/// Looks for a shortest path of a domain that an automaton reads to ends of all indexes below `required`, and to no end of `required`.
+/// Looks for a shortest path of a domain that an automaton reads to ends of all indexes below `required`, and to no end of
+/// `required`.
 ///
 /// It stops when there are more rows than the limit.
 pub fn search(

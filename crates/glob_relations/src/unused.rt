@@ -31,22 +31,22 @@ pub enum Decides {
 /// Whether a glob of a list ever decides.
 #[derive(Drop)]
 pub enum Reachability {
-    /// It decides for this path of the domain, and for no shorter one.
+    /// It decides for this path of the domain, and for no shorter path.
     Decides(Vec<u8>),
-    /// It decides for no path of the domain: the globs at these indexes, of those that come before it where the first decides, and
-    /// after it where the last does, cover it. None of them can be left out. There is one index, or none, if one glob, or none,
-    /// covers it.
+    /// It decides for no path of the domain: the globs at these indexes, which all come before it if the first match decides, and
+    /// after it if the last match decides, cover it. None of them can be left out. It is one index if one of them covers the glob
+    /// alone, and none if the glob matches no path of the domain.
     Never(Vec<usize>),
     /// There are more rows than the limit.
     Unknown,
 }
 
-/// Returns for each glob of a list whether it ever decides for a path of a domain, and else which others cover it.
+/// Returns for each glob of a list whether it ever decides for a path of a domain, and otherwise which other globs cover it.
 ///
-/// For each glob it tries a shortest path that this glob matches. If others that can decide in its place match that, it searches as
-/// [`covering`] does, by all of these. For a glob that never decides it searches
-/// once more for each of these alone, and then, unless one covers it, once for each by those that are left. Each search has the limit.
-/// Returns an error if memory runs out.
+/// For each glob it first tries a shortest path that the glob matches. If a rival, a glob that can decide instead, matches that
+/// path, it searches as [`covering`] does, with all rivals. For a glob that never decides it then searches with each rival alone,
+/// and unless one of them covers the glob, once more for each rival, without it. Each search has the limit. Fails only if memory
+/// runs out.
 ///
 /// [`covering`]: crate::covering
 pub fn unreachable(
@@ -97,8 +97,8 @@ fn find_reachability(
     }
 }
 
-/// Returns a shortest path that a glob matches, unless others match it, too. This is a shortest one that these do not match, and is found
-/// without a search through their states.
+/// Returns a shortest path that a glob matches, unless other globs match it, too. Then no shorter path is matched by the glob
+/// alone. It is found without a search through the states of the others.
 fn short_path(
     alloc: Global,
     glob: &Glob,
@@ -123,7 +123,7 @@ fn short_path(
     Ok(Some(path))
 }
 
-/// Returns the indexes of the globs that can decide in the place of a glob.
+/// Returns the indexes of the globs that can decide instead of a glob.
 fn rivals(alloc: Global, decides: Decides, i: usize, count: usize) -> Result<Vec<usize>, AllocError>
     requires { i < count }
     ensures { IfOk result (λ indexes. indexes.items ≡ rivals decides i count) }
@@ -134,7 +134,7 @@ fn rivals(alloc: Global, decides: Decides, i: usize, count: usize) -> Result<Vec
     }
 }
 
-/// Returns the numbers from one to below another.
+/// Returns the numbers from `low` on that are below `high`.
 fn numbers(alloc: Global, low: usize, high: usize) -> Result<Vec<usize>, AllocError>
     requires { low ≤ high }
     ensures { IfOk result (λ all. all.items ≡ range_with_len low (high - low)) }
@@ -146,7 +146,7 @@ fn numbers(alloc: Global, low: usize, high: usize) -> Result<Vec<usize>, AllocEr
     Ok(all)
 }
 
-/// Returns whether some of other globs, at these indexes, have to be there for a glob to be covered, and which.
+/// Returns which of the globs at these indexes are needed to cover a glob that all of them cover.
 fn cover(
     alloc: Global,
     glob: &Glob,
@@ -167,7 +167,7 @@ fn cover(
     }
 }
 
-/// Returns a glob that covers another by itself, or else several that do.
+/// Returns the index of a glob that covers another alone, or the indexes of several that cover it together.
 fn cover_of_some(
     alloc: Global,
     glob: &Glob,
@@ -192,7 +192,7 @@ fn cover_of_some(
     least_cover(alloc, glob, globs, others, domain, limit)
 }
 
-/// Returns several globs that cover another, of which none can be left out. It tries to leave out one after another.
+/// Returns the indexes of globs that cover another, none of which can be left out. It tries to leave out each in turn.
 fn least_cover(
     alloc: Global,
     glob: &Glob,
@@ -221,7 +221,7 @@ fn least_cover(
     Ok(Reachability::Never(set))
 }
 
-/// Returns the numbers of a list without that at a place.
+/// Returns the numbers of a list, without the number at a place.
 fn without(alloc: Global, list: &[usize], place: usize) -> Result<Vec<usize>, AllocError>
     requires { place < length list.now }
     ensures { IfOk result

@@ -1,8 +1,8 @@
-//! By what a set of globs decides each of its globs: by a key, or by the states of an automaton.
+//! Match strategies: a set matches a glob by a key, or by an automaton.
 //!
-//! [`strategy_of`] returns which. An automaton has the states of its tokens, one glob after another, and the end of each names its
-//! index. [`new_builder`] begins one, and [`add_tokens`] adds the tokens of a glob, or a part of them that is to be matched as a
-//! glob of its own. Nothing here knows the text of a glob.
+//! [`strategy_of`] returns the strategy of a glob. An automaton has the states of the tokens of several globs, and each end has
+//! the index of its glob. [`new_builder`] returns an empty builder of an automaton, and [`add_tokens`] adds the tokens of a glob,
+//! or a part of them that is matched like a glob of its own. The crate never reads the text of a glob.
 #![tactic(auto)]
 
 mod characters;

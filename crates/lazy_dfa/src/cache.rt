@@ -17,8 +17,8 @@ use std::sync::Arc;
 
 /// The rows that the texts of a thread needed so far, in a memory of fixed size.
 ///
-/// A cache is made for one automaton, which it shares. Contracts see the automaton whose ends are found: what earlier calls left has
-/// no effect on an answer.
+/// A cache is made for one automaton, which it shares. Contracts see the automaton whose ends are found: what earlier calls left
+/// has no effect on an answer.
 #[derive(Drop)]
 pub struct Cache {
     dfa: Arc<LazyDfa>,
@@ -54,7 +54,7 @@ impl Cache {
 
     /// Returns a cache with the rows that another one has, if they fit into so many bytes, and with none otherwise.
     ///
-    /// What is said of [`Cache::new`] holds for it.
+    /// It takes as many bytes as [`Cache::new`] does, and later calls allocate nothing.
     pub fn with_rows_of(alloc: Global, other: &Cache, bytes: usize) -> Result<Cache, AllocError>
         ensures { IfOk result (λ cache. cache ≡ other.now) }
     {
@@ -79,9 +79,9 @@ impl Cache {
 
     /// Puts the index of each end that a text leads to into a set, beside what it holds.
     ///
-    /// An entry that is there is one visit. Where there is none yet, each state of the automaton is read at most once, which is one
-    /// visit, and a row is looked up, which is one more. So it is at most `(text bytes + 1) * (states + 1)` visits. It takes no
-    /// memory: if there is no room for a row, all rows are forgotten, which is no visit.
+    /// An entry that is there is one visit. Where there is none yet, each state of the automaton is read at most once, which is
+    /// one visit, and a row is looked up, which is one more. So it is at most `(text bytes + 1) * (states + 1)` visits. It takes
+    /// no memory: if there is no room for a row, all rows are forgotten, which is no visit.
     pub fn find(&mut self, text: &[u8], found: &mut IndexSet, visits: &mut Visits)
         requires room { self.old.index_count ≤ index_capacity found.old }
         ensures same { self.new ≡ self.old }
@@ -97,8 +97,8 @@ impl Cache {
             .find(automaton, self.dfa.indexes(), text, found, visits);
     }
 
-    /// The same as [`Cache::find`] by entries that are there. Returns whether all that it needs are; if not, some of the indexes are
-    /// put into the set. It is at most one visit for each byte and one more.
+    /// The same as [`Cache::find`] by entries that are there. Returns whether all that it needs are; if not, some of the indexes
+    /// are put into the set. It is at most one visit for each byte and one more.
     pub fn find_known(&self, text: &[u8], found: &mut IndexSet, visits: &mut Visits) -> bool
         requires room { self.now.index_count ≤ index_capacity found.old }
         ensures room { index_capacity found.new ≡ index_capacity found.old }
@@ -155,8 +155,8 @@ impl Cache {
             .can_match_after(automaton, self.dfa.live(), text, byte, visits)
     }
 
-    /// The same as [`Cache::can_match_after`] by entries that are there. Returns `None` if one that it needs is not. It is at most one
-    /// visit for each byte and one more, and one for each state.
+    /// The same as [`Cache::can_match_after`] by entries that are there. Returns `None` if one that it needs is not. It is at
+    /// most one visit for each byte and one more, and one for each state.
     pub fn can_match_after_known(&self, text: &[u8], byte: u8, visits: &mut Visits) -> Option<bool>
         ensures some { IfSome result
             (λ yes. IsTrue yes ↔ MatchesAfter self.now (text.now ++ byte ∷ [])) }

@@ -40,24 +40,24 @@ WantsFrom m n domain y = IsTrue (ends_in (Some (first_place domain)) y) × IsWan
 abbrev pub HasRow : Rows → ℕ → Row → Type 0
 HasRow rows i row = slice_get rows.seen.keys i ≡ Some row
 
--- where the row of the number i came from; of the first row, this means nothing
+-- the origin of the row of the number i; the origin of the first row means nothing
 abbrev pub HasOrigin : Rows → ℕ → Origin → Type 0
 HasOrigin rows i origin = slice_get rows.origins.items i ≡ Some origin
 
--- the row of the number j is the first, or came from one that is no later than that of the number i
+-- the row of the number j is the first row, or came from the row of the number i or an earlier row
 abbrev pub IsNext : Rows → ℕ → ℕ → Type 0
 IsNext rows i j = (j ≡ 0) ⊎ ((origin : Origin) × HasOrigin rows j origin × (origin.row ≤ i))
 
--- from some row that is next to that of the number i the text leads to what is wanted
+-- the text leads to a wanted end from some row j for which `IsNext` holds
 abbrev pub WantsNext : NfaValue → ℕ → Rows → ℕ → List ℕ → Type 0
 WantsNext m n rows i y = (j : ℕ) × (r : Row) × HasRow rows j r × IsNext rows i j × WantsRow m n r y
 
--- the row of the number i came from the first by as many bytes
+-- `depth` bytes led from the first row to the row of the number i
 abbrev pub IsDeep : Rows → ℕ → ℕ → Type 0
 IsDeep rows zero i = i ≡ 0
 IsDeep rows (suc depth) i = (0 < i) × ((origin : Origin) × HasOrigin rows i origin × IsDeep rows depth origin.row)
 
--- each row but the first came from one below the number
+-- each row except the first came from a row below the number
 abbrev pub CameBefore : Rows → ℕ → Type 0
 CameBefore rows number = (i : ℕ) (origin : Origin) → 0 < i → HasOrigin rows i origin → origin.row < number
 
@@ -106,7 +106,7 @@ AddsRow old new row origin =
     ((new.seen.keys ≡ old.seen.keys) × (new.origins.items ≡ old.origins.items) × ((i : ℕ) × (r : Row) × HasRow old i r × (r.place ≡ row.place) × (r.states.items ≡ row.states.items)))
     ⊎ ((new.seen.keys ≡ old.seen.keys ++ row ∷ []) × (new.origins.items ≡ old.origins.items ++ origin ∷ []))
 
--- what is wanted from the row of the number i after the byte is wanted from some row that is next to it
+-- each text that leads to a wanted end from the row of the number i after the byte does so from some row that `IsNext` allows
 abbrev pub IsFollowedBy : NfaValue → ℕ → Rows → ℕ → ℕ → Type 0
 IsFollowedBy m n rows i b = (row : Row) → HasRow rows i row → (y : List ℕ) → WantsRow m n row (b ∷ y) → WantsNext m n rows i y
 
@@ -134,11 +134,11 @@ AreBoundaries m set = (b : ℕ) → b + 1 < 256 → (IsTrue (has_byte set b) →
 abbrev pub AreRepresentatives : NfaValue → List ℕ → Type 0
 AreRepresentatives m bytes = (c : ℕ) → c < 256 → (b : ℕ) × Contains bytes b × AreAlike m b c
 
--- the text is one of bytes, and leads from the start to what is wanted
+-- the text consists of bytes, and leads from the start to a wanted end
 abbrev pub IsWantedText : NfaValue → ℕ → Domain → List ℕ → Type 0
 IsWantedText m n domain y = AllBytes y × WantsFrom m n domain y
 
--- what a search tells: a shortest text that is wanted, or that there is none, or that there are more rows than the limit
+-- the answer of a search: a shortest wanted text, or that there is none, or that there are more rows than the limit
 abbrev pub TellsSearch : NfaValue → ℕ → Domain → ℕ → Answer → Type 0
 TellsSearch m n domain limit (Found path) = IsShortest (IsWantedText m n domain) path.items
 TellsSearch m n domain limit Nothing = (y : List ℕ) → IsWantedText m n domain y → ⊥
