@@ -1,8 +1,8 @@
 -- A consequence of the definition of a trie's result. The law is the contract of a function of the module `laws`.
 use Rattle.std.specs.Prelude.{◌≡◌, ℕ, ◌↔◌, List, ◌++◌, Contains}
 use Rattle.byte_keys.specs.Entries.{entry}
-use Rattle.byte_keys.specs.declared.anchor.Anchor.{Anchor}
-use Rattle.byte_keys.specs.declared.anchor.Anchor.TheVariants.{Start, End}
+use Rattle.byte_keys.specs.declared.trie.Anchor.{Anchor}
+use Rattle.byte_keys.specs.declared.trie.Anchor.TheVariants.{Start, End}
 use Rattle.byte_keys.specs.Texts.{Texts, found}
 
 -- the path begins, or ends, with the text

@@ -2,9 +2,9 @@
 use Rattle.std.specs.Prelude.{ℕ, List, [], ◌∷◌, ◌++◌, map}
 use Rattle.std.specs.List.{flat_map}
 use Rattle.byte_keys.specs.Entries.{Entry, entry, indexes_under}
-use Rattle.byte_keys.specs.declared.anchor.Anchor.{Anchor}
-use Rattle.byte_keys.specs.declared.anchor.Anchor.TheVariants.{Start, End}
-use Rattle.byte_keys.specs.declared.text.Text.{Text}
+use Rattle.byte_keys.specs.declared.trie.Anchor.{Anchor}
+use Rattle.byte_keys.specs.declared.trie.Anchor.TheVariants.{Start, End}
+use Rattle.byte_keys.specs.declared.trie.Text.{Text}
 
 -- the value of a trie: its texts with their indexes, and where in a path they are looked for
 pub record Texts : Type 0 where

@@ -1,16 +1,13 @@
 //! Builders of tables.
 
-ghost use Rattle.std.specs.Prelude.{◌≡◌, ◌↔◌, ℕ, IsTrue, List, ◌++◌, ◌∷◌, [], OnOk, OnErr, IfOk};
+ghost use Rattle.std.specs.Prelude.{◌≡◌, ◌↔◌, ℕ, IsTrue, List, ◌++◌, ◌∷◌, [], OnOk, OnErr, IfOk, length};
 ghost use Rattle.byte_keys.specs.Entries.{entry, Entry};
 ghost use Rattle.std.specs.List.{All};
 ghost use Rattle.byte_keys.specs.inner.Pairs.{entries_of, IsKept};
+ghost use Rattle.byte_keys.specs.inner.Tables.{AreContents};
 
-use crate::directory::directory_of;
-use crate::ends::ends_of;
-use crate::keys::hash;
-use crate::one_key::contents_of_one;
-use crate::pairs::{Pair, indexes_of, sort};
-use crate::rows::rows_of;
+use crate::pairs::{Pair, hash, indexes_of, sort};
+use crate::rows::{Directory, Row, directory_of, ends_of, rows_of};
 use crate::table::{Contents, Table};
 use std::alloc::{AllocError, Global};
 use std::marker::Model;
@@ -130,4 +127,31 @@ impl TableBuilder {
         };
         Table::of(alloc, contents, entries)
     }
+}
+
+/// Returns the contents of the table of a single pair, which needs no order.
+fn contents_of_one(alloc: Global, bytes: Vec<u8>, pairs: &[Pair]) -> Result<Contents, AllocError>
+    requires one { length pairs.now ≡ 1 }
+    requires kept { All (IsKept bytes.items) pairs.now }
+    ensures { IfOk result (λ c. AreContents c (entries_of bytes.items pairs.now)) }
+{
+    let pair = pairs[0];
+    let mut rows = Vec::with_capacity(alloc, 1)?;
+    rows.push(Row {
+        hash: pair.hash,
+        start: pair.start,
+        end: pair.end,
+        from: 0,
+        to: 1,
+    })?;
+    let mut indexes = Vec::with_capacity(alloc, 1)?;
+    indexes.push(pair.index)?;
+    let ends = ends_of(&bytes, &rows);
+    Ok(Contents {
+        bytes,
+        rows,
+        ends,
+        directory: Directory::new(alloc),
+        indexes,
+    })
 }

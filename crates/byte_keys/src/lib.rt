@@ -7,24 +7,14 @@
 //! goes on as the path does.
 #![tactic(auto)]
 
-mod anchor;
 mod builder;
-mod directory;
-mod ends;
-mod keys;
 pub mod laws;
-mod one_key;
 mod pairs;
-mod parts;
 mod rows;
 mod table;
-mod text;
 mod tree;
 mod trie;
-mod walk;
 
-pub use anchor::Anchor;
 pub use builder::TableBuilder;
 pub use table::Table;
-pub use text::Text;
-pub use trie::Trie;
+pub use trie::{Anchor, Text, Trie};

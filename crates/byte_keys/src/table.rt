@@ -5,10 +5,8 @@ ghost use Rattle.byte_keys.specs.Entries.{Entry, indexes_under};
 ghost use Rattle.byte_keys.specs.inner.Tables.{AreContents, HasContents};
 
 use crate::builder::TableBuilder;
-use crate::directory::Directory;
-use crate::ends::Ends;
-use crate::parts::part;
-use crate::rows::{Row, find};
+use crate::pairs::part;
+use crate::rows::{Directory, Ends, Row, find};
 use bit_sets::Visits;
 use std::alloc::{AllocError, Global};
 use std::marker::Model;

@@ -1,17 +1,15 @@
 //! A trie.
 
-ghost use Rattle.std.specs.Prelude.{◌≡◌, ◌≢◌, ℕ, ◌+◌, ◌≤◌, ◌↔◌, [], List, map, length, IsTrue, IfOk};
+ghost use Rattle.std.specs.Prelude.{◌≡◌, ◌≢◌, ℕ, ◌+◌, ◌≤◌, ◌↔◌, [], List, map, length, IsTrue, IfOk, slice_get};
 ghost use Rattle.bit_sets.specs.Indexes.{index_capacity, HasAlso};
 ghost use Rattle.byte_keys.specs.Entries.{indexes_under};
 ghost use Rattle.byte_keys.specs.Texts.{found, entry_of, Texts};
 ghost use Rattle.byte_keys.specs.inner.Building.{IsOrdered};
-ghost use Rattle.byte_keys.specs.inner.Anchors.{entry_from_anchor};
+ghost use Rattle.byte_keys.specs.inner.Anchors.{entry_from_anchor, from_anchor};
 ghost use Rattle.byte_keys.specs.inner.IsTrieOf.{HasTree};
 
-use crate::anchor::Anchor;
-use crate::text::Text;
+use crate::tree;
 use crate::tree::Tree;
-use crate::walk;
 use bit_sets::{IndexSet, Visits};
 use std::alloc::{AllocError, Global};
 use std::marker::Model;
@@ -79,7 +77,7 @@ impl Trie {
         ensures counted { visits.old ≤ visits.new }
     {
         if let Some(tree) = &self.tree {
-            walk::find(tree, self.anchor, path, into, visits);
+            tree::find(tree, self.anchor, path, into, visits);
         }
     }
 
@@ -93,7 +91,7 @@ impl Trie {
         ensures counted { visits.old ≤ visits.new }
     {
         match &self.tree {
-            Some(tree) => walk::has_some(tree, self.anchor, path, visits),
+            Some(tree) => tree::has_some(tree, self.anchor, path, visits),
             None => false,
         }
     }
@@ -108,7 +106,7 @@ impl Trie {
         ensures counted { visits.old ≤ visits.new }
     {
         match &self.tree {
-            Some(tree) => walk::count(tree, self.anchor, path, visits),
+            Some(tree) => tree::count(tree, self.anchor, path, visits),
             None => 0,
         }
     }
@@ -137,4 +135,40 @@ fn reverse_all(texts: &mut [Text])
     for text in texts.iter_mut() {
         text.bytes.reverse();
     }
+}
+
+/// Where in a path texts are looked for.
+#[derive(Clone, Copy, PartialEq, Eq)]
+pub enum Anchor {
+    /// At its beginning.
+    Start,
+    /// At its end.
+    End,
+}
+
+impl Anchor {
+    /// Returns a byte of a path, counted from this side, or `None` after the last.
+    pub(crate) fn byte(self, path: &[u8], at: usize) -> Option<u8>
+        ensures { result ≡ slice_get (from_anchor self path.now) at }
+    {
+        match self {
+            Anchor::Start => path.get(at).copied(),
+            Anchor::End => {
+                if at < path.len() {
+                    Some(path[path.len() - 1 - at])
+                } else {
+                    None
+                }
+            }
+        }
+    }
+}
+
+/// A text that a trie looks for, and the index that it finds for it.
+#[derive(Drop)]
+pub struct Text {
+    /// The text, which need not be UTF-8.
+    pub bytes: Vec<u8>,
+    /// The index, which other texts may have too.
+    pub index: usize,
 }

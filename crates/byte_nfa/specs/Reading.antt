@@ -1,8 +1,8 @@
 -- States as they are read.
 use Rattle.std.specs.Prelude.{[], ◌∷◌}
 use Rattle.byte_nfa.specs.Steps.{State, bytes_state, union_state, loop_state, match_state}
-use Rattle.byte_nfa.specs.declared.nfa.reading.StateRef.{StateRef}
-use Rattle.byte_nfa.specs.declared.nfa.reading.StateRef.TheVariants.{Bytes, Union, Loop, Match}
+use Rattle.byte_nfa.specs.declared.nfa.StateRef.{StateRef}
+use Rattle.byte_nfa.specs.declared.nfa.StateRef.TheVariants.{Bytes, Union, Loop, Match}
 
 -- the state that was read
 abbrev pub is_read : StateRef → State

@@ -4,30 +4,23 @@
 //! automaton that leads to the same ends and begins in one state. There one state stands for all that a text may lead to by steps
 //! of one kind with the same bytes, so a run goes through smaller sets of states. Each state is made for a list of states.
 
-ghost use Rattle.std.specs.Prelude.{◌≡◌, ◌+◌, ◌≤◌, [], IsTrue, IfOk, IfSome};
+ghost use Rattle.std.specs.Prelude.{◌≡◌, ◌+◌, ◌≤◌, [], IsTrue, IfOk, IfSome, ◌⊎◌, ℕ, List, OnOk, ◌<◌, length};
 ghost use Rattle.byte_nfa.specs.Runs.{size};
 ghost use Rattle.byte_nfa.specs.Sharing.{Shares};
 ghost use Rattle.byte_nfa.specs.Steps.{state};
-ghost use Rattle.byte_nfa.specs.inner.Chunks.{IsPushedFor};
-ghost use Rattle.byte_nfa.specs.inner.Known.{IsSharing};
+ghost use Rattle.byte_nfa.specs.inner.Chunks.{IsPushedFor, with_next, IsChunk};
+ghost use Rattle.byte_nfa.specs.inner.Known.{IsSharing, IsKnown};
 ghost use Rattle.byte_nfa.specs.inner.Lists.{AcceptAlike, IsStateFor};
+ghost use Rattle.byte_nfa.specs.Reading.{is_read};
 
-mod budget;
-mod chunk;
-mod expanded;
-mod known;
 mod order;
-mod sets;
 
 use crate::builder::Builder;
 use crate::nfa::{Nfa, StateRef};
-use budget::{budget, spend};
-use chunk::Chunk;
-use expanded::expanded;
-use known::KnownLists;
-use order::ordered;
-use sets::SetNumbers;
+use order::{SetNumbers, ordered};
 use std::alloc::{AllocError, Global};
+use std::collections::HashMap;
+use std::hash::{FoldHasher, Hash, Hasher};
 
 /// Returns an automaton that leads where `automaton` does and begins in one state, and in which texts that begin alike share
 /// states.
@@ -251,5 +244,215 @@ fn push_chunk(
             Ok(Some(state))
         }
         Some(StateRef::Union(_)) | None => Ok(None),
+    }
+}
+
+/// Returns how much work may be done for an automaton, where a state that is looked at in a list is 1.
+///
+/// Each list is looked at twice, and a state is mostly in few lists.
+fn budget(automaton: &Nfa) -> usize {
+    automaton
+        .state_count()
+        .saturating_mul(32)
+        .saturating_add(64)
+}
+
+/// Subtracts an amount from `left`. Returns whether there was enough.
+fn spend(left: &mut usize, amount: usize) -> bool
+    ensures taken { IsTrue result → left.new + amount ≡ left.old }
+    ensures less { left.new ≤ left.old }
+{
+    match left.checked_sub(amount) {
+        Some(rest) => {
+            *left = rest;
+            true
+        }
+        None => false,
+    }
+}
+
+/// Returns the states of a list with a union's successors in its place, and no unions. `None` if that is too much work.
+fn expanded(
+    alloc: Global,
+    automaton: &Nfa,
+    list: &[usize],
+    left: &mut usize,
+) -> Result<Option<Vec<usize>>, AllocError>
+    ensures alike { IfOk result
+        (λ made. IfSome made (λ states. AcceptAlike automaton.now list.now states.items)) }
+    ensures left { left.new ≤ left.old }
+{
+    let mut states = Vec::new(alloc);
+    let mut waiting = Vec::from_slice(alloc, list)?;
+    while let Some(s) = waiting.pop() {
+        if !spend(left, 1) {
+            return Ok(None);
+        }
+        let Some(state) = automaton.state(s) else {
+            return Ok(None);
+        };
+        match state {
+            StateRef::Union(targets) => {
+                if !spend(left, targets.len()) {
+                    return Ok(None);
+                }
+                waiting.extend_from_slice(targets)?;
+            }
+            _ => states.push(s)?,
+        }
+    }
+    Ok(Some(states))
+}
+
+/// A list and its state.
+#[derive(Drop)]
+struct Known {
+    list: Vec<usize>,
+    state: usize,
+}
+
+/// The lists that a state was made for.
+#[derive(Drop)]
+pub struct KnownLists {
+    entries: Vec<Known>,
+    /// For each state, 1 and the place of the entry whose list is this state alone. It is 0 if there is none. Most lists are so.
+    singles: Vec<usize>,
+    /// The place of an entry by the hash of its list, if that is longer.
+    places: HashMap<u64, usize>,
+}
+
+impl KnownLists {
+    /// Returns an empty index of lists of states below a count.
+    pub fn new(alloc: Global, state_count: usize) -> Result<KnownLists, AllocError>
+        ensures { IfOk result (λ known. known.entries.items ≡ []) }
+    {
+        let mut singles = Vec::new(alloc);
+        singles.resize(state_count, 0)?;
+        Ok(KnownLists {
+            entries: Vec::new(alloc),
+            singles,
+            places: HashMap::new(alloc),
+        })
+    }
+
+    /// Returns the state of a list, if it is found. It may not be found if another list has its hash.
+    pub fn state_of(&self, list: &[usize]) -> Option<usize>
+        ensures { IfSome result (λ state. IsKnown self.now.entries.items list.now state) }
+    {
+        let place = self.place_of(list)?;
+        let known = self.entries.get(place)?;
+        if known.list.as_slice() == list {
+            Some(known.state)
+        } else {
+            None
+        }
+    }
+
+    /// Returns the place of the entry of a list, if there is any; or, of a longer list, the entry of a list with the same hash.
+    fn place_of(&self, list: &[usize]) -> Option<usize> {
+        match list {
+            [state] => self.singles.get(*state)?.checked_sub(1),
+            _ => self.places.get(&hash_of(list)).copied(),
+        }
+    }
+
+    /// Keeps the place of the entry of a list.
+    fn keep_place(&mut self, list: &[usize], place: usize) -> Result<(), AllocError>
+        ensures { self.new.entries.items ≡ self.old.entries.items }
+    {
+        match list {
+            [state] => {
+                if let Some(single) = self.singles.get_mut(*state) {
+                    *single = place.saturating_add(1);
+                }
+            }
+            _ => {
+                self.places.insert(hash_of(list), place)?;
+            }
+        }
+        Ok(())
+    }
+
+    /// Adds a list and its state.
+    pub fn add(&mut self, list: Vec<usize>, state: usize) -> Result<(), AllocError>
+        ensures { OnOk result
+            ((l : List ℕ) (u : ℕ) → IsKnown self.new.entries.items l u
+            → IsKnown self.old.entries.items l u ⊎ ((list.items ≡ l) × (state ≡ u))) }
+    {
+        let place = self.entries.len();
+        self.keep_place(&list, place)?;
+        self.entries.push(Known { list, state })?;
+        Ok(())
+    }
+}
+
+/// Returns the hash of a list.
+fn hash_of(list: &[usize]) -> u64 {
+    let mut hasher = FoldHasher::default();
+    list.hash(&mut hasher);
+    hasher.finish()
+}
+
+/// States that follow each other in a list, and are alike except for their successors.
+#[derive(Drop)]
+pub struct Chunk {
+    /// The first of these states.
+    pub first: usize,
+    /// Their successors.
+    pub nexts: Vec<usize>,
+    /// The place in the list behind them.
+    pub end: usize,
+}
+
+impl Chunk {
+    /// Returns the chunk that begins at a place of a list, with each state that follows as far as they are alike. `None` if the
+    /// state there is a union.
+    pub fn at(
+        alloc: Global,
+        automaton: &Nfa,
+        states: &[usize],
+        start: usize,
+    ) -> Result<Option<Chunk>, AllocError>
+        requires { start < length states.now }
+        ensures more { IfOk result
+            (λ made. IfSome made (λ chunk. (start < chunk.end) × (chunk.end ≤ length states.now))) }
+        ensures alike { IfOk result
+            (λ made. IfSome made
+            (λ chunk. IsChunk automaton.now.states states.now start chunk.end
+            (state automaton.now.states chunk.first) chunk.nexts.items)) }
+    {
+        let first = states[start];
+        let Some(like) = automaton.state(first) else {
+            return Ok(None);
+        };
+        let mut nexts = Vec::new(alloc);
+        let mut end = start;
+        while end < states.len() {
+            let Some(next) = next_of(automaton, states[end], &like) else {
+                break;
+            };
+            match nexts.last() {
+                Some(last) if *last == next => {}
+                _ => nexts.push(next)?,
+            }
+            end += 1;
+        }
+        if end == start {
+            return Ok(None);
+        }
+        Ok(Some(Chunk { first, nexts, end }))
+    }
+}
+
+/// Returns the successor of a state, if the state is like another except for that. An end has none: 0 stands for that.
+fn next_of(automaton: &Nfa, s: usize, like: &StateRef<'_>) -> Option<usize>
+    ensures { IfSome result
+        (λ next. state automaton.now.states s ≡ with_next (is_read like.now) next) }
+{
+    match (automaton.state(s)?, like) {
+        (StateRef::Bytes(bytes, next), StateRef::Bytes(set, _)) if bytes.is(set) => Some(next),
+        (StateRef::Loop(bytes, exit), StateRef::Loop(set, _)) if bytes.is(set) => Some(exit),
+        (StateRef::Match(index), StateRef::Match(same)) if index == *same => Some(0),
+        _ => None,
     }
 }

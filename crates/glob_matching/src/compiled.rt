@@ -9,12 +9,12 @@ ghost use Rattle.glob_strategy.specs.IndexedTokens.{IndexedTokens, IsFor, SomeMe
 ghost use Rattle.glob_matching.specs.Matching.{AddsMatches, TellsMatch};
 
 use crate::rows::RowSource;
-use crate::source::Source;
-use bit_sets::{IndexSet, Visits};
+use bit_sets::{ByteSet, IndexSet, Visits};
 use byte_nfa::Nfa;
 use lazy_dfa::{Cache, LazyDfa, StateSets};
 use std::alloc::{AllocError, Global};
 use std::marker::Model;
+use std::snapshot::Snapshot;
 use std::sync::Arc;
 
 /// The most bytes that rows are kept in between calls, unless another limit is set: 16 MiB.
@@ -226,5 +226,57 @@ impl Compiled {
             }
         }
         self.dfa.can_match_after(text, byte, sets, visits)
+    }
+}
+
+/// The number of states of an automaton, and the last bytes of texts that lead to an end. Contracts see the automaton.
+#[derive(Drop)]
+pub struct Source {
+    state_count: usize,
+    /// A text that ends with another byte leads to no end.
+    last_bytes: ByteSet,
+    nfa: Snapshot<Nfa>,
+}
+
+impl Model for Source {
+    ghost use Rattle.byte_nfa.specs.Steps.{NfaValue};
+    ghost use Rattle.glob_matching.specs.inner.Source.{IsSource};
+
+    ghost Value = { NfaValue };
+
+    ghost view = { λ s. s.nfa.value };
+
+    ghost invariant = { λ s. IsSource s.nfa.value s.state_count s.last_bytes };
+}
+
+impl Source {
+    /// Returns these facts of an automaton. It reads each state, and takes a bit of memory for each until it returns.
+    pub fn of(automaton: &Nfa) -> Result<Source, AllocError>
+        ensures { IfOk result (λ source. source ≡ automaton.now) }
+    {
+        Ok(Source {
+            state_count: automaton.state_count(),
+            last_bytes: automaton.last_bytes()?,
+            nfa: Snapshot::of(automaton),
+        })
+    }
+
+    /// Returns the number of states.
+    pub fn state_count(&self) -> usize
+        ensures { result ≡ size self.now }
+    {
+        self.state_count
+    }
+
+    /// Returns whether the last byte of a text shows that it leads to no end. It is a visit, also of an empty text.
+    pub fn rejects_last_byte(&self, text: &[u8], visits: &mut Visits) -> bool
+        ensures rejected { IsTrue result → (k : ℕ) → IsReached self.now text.now k → ⊥ }
+        ensures visits { visits.new ≡ visits.old + 1 }
+    {
+        visits.tick();
+        match text.split_last() {
+            Some((last, _)) => !self.last_bytes.has(*last),
+            None => false,
+        }
     }
 }

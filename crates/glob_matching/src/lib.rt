@@ -7,10 +7,8 @@
 mod compiled;
 mod kept;
 mod pool;
-mod published;
 mod rows;
 mod scratch;
-mod source;
 
 pub use compiled::{Compiled, DEFAULT_DFA_SIZE_LIMIT};
 pub use scratch::{NeedsScratch, Scratch};

@@ -1,8 +1,8 @@
 -- Indexes under keys, and which of them a path finds.
 use Rattle.std.specs.Prelude.{◌≡◌, ℕ, ◌+◌, ◌≤◌, ◌↔◌, ◌⊎◌, Bool, cond, IsTrue, List, length, [], ◌∷◌, ◌++◌, Contains}
 use Rattle.byte_keys.specs.Entries.{Entry, entry, indexes_under}
-use Rattle.byte_keys.specs.declared.anchor.Anchor.{Anchor}
-use Rattle.byte_keys.specs.declared.anchor.Anchor.TheVariants.{Start, End}
+use Rattle.byte_keys.specs.declared.trie.Anchor.{Anchor}
+use Rattle.byte_keys.specs.declared.trie.Anchor.TheVariants.{Start, End}
 use Rattle.byte_keys.specs.Texts.{Texts, found}
 use Rattle.glob_path.specs.Key.{KeyValue}
 use Rattle.glob_path.specs.Key as path_key

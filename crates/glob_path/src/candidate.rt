@@ -1,9 +1,9 @@
-//! Paths that are matched by globs.
+//! Paths that are matched by globs, and texts as paths.
 
-ghost use Rattle.std.specs.Prelude.{◌≡◌, ℕ, List, ⊤};
+ghost use Rattle.std.specs.Prelude.{◌≡◌, ℕ, List, ⊤, string_bytes};
 ghost use Rattle.glob_path.specs.PathParts.{basename_of, extension_of};
 
-use crate::parts;
+use crate::path_parts::{basename, extension};
 use bstr::ByteSlice;
 use std::alloc::AllocError;
 use std::fmt;
@@ -66,7 +66,7 @@ impl<'a> Candidate<'a> {
     pub fn basename(&self) -> &'a [u8]
         ensures { result.now ≡ basename_of self.now }
     {
-        parts::basename(self.path)
+        basename(self.path)
     }
 
     /// Returns the extension: the bytes of the basename from its last `.` on, or nothing if it has no `.`.
@@ -76,7 +76,7 @@ impl<'a> Candidate<'a> {
     pub fn ext(&self) -> &'a [u8]
         ensures { result.now ≡ extension_of self.now }
     {
-        parts::extension(self.basename())
+        extension(self.basename())
     }
 }
 
@@ -99,5 +99,49 @@ impl<'a> fmt::Debug for Candidate<'a> {
             .field("basename", &self.basename().as_bstr())
             .field("ext", &self.ext().as_bstr())
             .finish()
+    }
+}
+
+/// A text that can be matched as a path.
+///
+/// A `Path`, an `OsStr` and the like have no text of their own. Pass their text, or pass their bytes to
+/// [`Candidate::from_bytes`](crate::Candidate::from_bytes).
+///
+/// ```rust
+/// use globset::Glob;
+///
+/// let matcher = Glob::new(alloc, "*.c")?.compile_matcher()?;
+/// let path = String::from_str(alloc, "a.c")?;
+/// assert!(rt; matcher.is_match("a.c")? && matcher.is_match(&path)? && matcher.is_match(path)?);
+/// ```
+pub trait AsPath: Drop {
+    ghost text: { Self → List ℕ };
+
+    /// Returns the path's text, which is the same at each call.
+    fn path_text(&self) -> &str
+        ensures { result.now ≡ text self.now };
+}
+
+impl AsPath for &str {
+    ghost text = { λ s. s.now };
+
+    fn path_text(&self) -> &str {
+        *self
+    }
+}
+
+impl AsPath for String {
+    ghost text = { λ s. string_bytes s };
+
+    fn path_text(&self) -> &str {
+        self.as_str()
+    }
+}
+
+impl AsPath for &String {
+    ghost text = { λ s. string_bytes s.now };
+
+    fn path_text(&self) -> &str {
+        self.as_str()
     }
 }

@@ -4,7 +4,7 @@ ghost use Rattle.std.specs.Prelude.{◌≡◌, ◌↔◌, IsTrue};
 ghost use Rattle.glob_path.specs.Key.{ComponentSuffix, KeyMatches, KeyMayMatchBelow, Prefix, Suffix, WholePath, key_bytes, key_seen};
 
 use crate::candidate::Candidate;
-use crate::parts;
+use crate::path_parts::{component_extension, last_component};
 
 /// Bytes that a path or a part of it is compared with.
 #[derive(Drop)]
@@ -44,8 +44,8 @@ impl Key {
     {
         match self {
             Key::WholePath(bytes) => path.path() == bytes.as_slice(),
-            Key::Basename(bytes) => parts::last_component(path.path()) == bytes.as_slice(),
-            Key::Extension(bytes) => parts::component_extension(path.path()) == bytes.as_slice(),
+            Key::Basename(bytes) => last_component(path.path()) == bytes.as_slice(),
+            Key::Extension(bytes) => component_extension(path.path()) == bytes.as_slice(),
             Key::ComponentSuffix(bytes) => has_component_suffix(path.path(), bytes),
             Key::Suffix(bytes) => has_suffix(path.path(), bytes),
             Key::Prefix(bytes) => has_prefix(path.path(), bytes),

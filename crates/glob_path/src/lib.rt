@@ -5,16 +5,13 @@
 //! returns whether a path below a folder may find a key. Nothing here knows globs.
 #![tactic(auto)]
 
-mod as_path;
 mod candidate;
 mod folders;
 mod key;
 mod literal_index;
-mod parts;
 mod path_parts;
 
-pub use as_path::AsPath;
-pub use candidate::Candidate;
+pub use candidate::{AsPath, Candidate};
 pub use key::Key;
 pub use literal_index::{LiteralIndex, LiteralIndexBuilder};
 pub use path_parts::PathParts;

@@ -6,11 +6,8 @@
 #![tactic(auto)]
 
 mod characters;
-mod excluded;
-mod groups;
 mod states;
 mod strategy;
-mod whole;
 
+pub use states::{add_tokens, new_builder};
 pub use strategy::{MatchStrategy, strategy_of, tokens_after_prefix, tokens_before_ending};
-pub use whole::{add_tokens, new_builder};

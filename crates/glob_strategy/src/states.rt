@@ -1,22 +1,24 @@
-//! The states of a token.
+//! The states of tokens, from the last token to the first. Groups may nest to any depth: no function calls itself.
 
-ghost use Rattle.std.specs.Prelude.{◌≡◌, ◌+◌, ◌<◌, ◌≤◌, length, OnOk, IfOk};
+ghost use Rattle.std.specs.Prelude.{◌≡◌, ◌+◌, ◌<◌, ◌≤◌, length, OnOk, IfOk, ◌++◌, ◌∷◌, [], List, OnErr, ◌&&◌, ◌||◌, not, reverse};
 ghost use Rattle.glob_syntax.specs.ClassBytes.{class_has};
-ghost use Rattle.glob_syntax.specs.FlatTokens.{IsSimple};
+ghost use Rattle.glob_syntax.specs.FlatTokens.{IsSimple, IsNested};
 ghost use Rattle.glob_syntax.specs.Token.{Any};
-ghost use Rattle.glob_syntax.specs.Views.{flat_of};
-ghost use Rattle.glob_syntax.specs.inner.Weight.{any_weight};
+ghost use Rattle.glob_syntax.specs.Views.{flat_of, flats, tokens_of};
+ghost use Rattle.glob_syntax.specs.inner.Weight.{any_weight, weight};
 ghost use Rattle.glob_syntax.specs.TokenMatches.{is_wild};
-ghost use Rattle.byte_nfa.specs.Runs.{size};
+ghost use Rattle.byte_nfa.specs.Runs.{size, max_reads};
 ghost use Rattle.glob_strategy.specs.inner.TokenStates.{IsSetOf, is_letter};
-ghost use Rattle.glob_strategy.specs.inner.Building.{Grows, BuildsText, BuildsToSlash, BuildsToken};
+ghost use Rattle.glob_strategy.specs.inner.Building.{Grows, BuildsText, BuildsToSlash, BuildsToken, BuildsWhole, Builds};
 ghost use Rattle.glob_strategy.specs.inner.Frames.{flat_weight, BuildsFlat};
+ghost use Rattle.glob_syntax.specs.TokensMatch.{is_prefix_alone};
+ghost use Rattle.glob_strategy.specs.IndexedTokens.{IndexedTokens, indexed, IsFor};
 
 use crate::characters::add_character;
 use bit_sets::ByteSet;
 use byte_nfa::Builder;
-use glob_syntax::{Class, Options, Token};
-use std::alloc::AllocError;
+use glob_syntax::{Class, Options, Token, is_prefix_alone};
+use std::alloc::{AllocError, Global};
 
 /// Returns the bytes that `?` and `*` match.
 fn wild_bytes(options: Options) -> ByteSet
@@ -103,7 +105,7 @@ fn add_any(builder: &mut Builder, options: Options, exit: usize) -> Result<usize
 
 /// Adds the states of a token that is no brace or comma, which lead to a state. Returns where they begin. A matching run begins
 /// there, and is at the exit after it.
-pub fn add_token(
+fn add_token(
     builder: &mut Builder,
     options: Options,
     token: &Token,
@@ -138,4 +140,212 @@ pub fn add_token(
         Token::Class(class) => builder.push_bytes(class_bytes(options, class), exit),
         Token::Open | Token::Comma | Token::Close => unreachable!(),
     }
+}
+
+/// An open group, or the whole glob: the branch that is being built, and the group's later branches.
+#[derive(Drop)]
+struct Frame {
+    /// Where the branch begins so far.
+    start: usize,
+    /// Whether the branch is blank so far.
+    blank: bool,
+    /// Where the branches lead to.
+    exit: usize,
+    /// Where the later branches that are kept begin, the last first.
+    starts: Vec<usize>,
+    /// Whether the later branches are all blank.
+    rest_blank: bool,
+}
+
+impl Frame {
+    ghost use Rattle.glob_strategy.specs.inner.Frames.{fresh, led, ended, frame_of, targets_of};
+
+    /// Returns a group with nothing built.
+    fn new(alloc: Global, exit: usize) -> Frame
+        ensures { frame_of result ≡ fresh exit }
+    {
+        Frame {
+            start: exit,
+            blank: true,
+            exit,
+            starts: Vec::new(alloc),
+            rest_blank: true,
+        }
+    }
+
+    /// Returns the frame with one more token of the branch.
+    fn lead(self, start: usize, blank: bool) -> Frame
+        ensures { frame_of result ≡ led start blank (frame_of self) }
+    {
+        Frame {
+            start,
+            blank: both(blank, self.blank),
+            exit: self.exit,
+            starts: self.starts,
+            rest_blank: self.rest_blank,
+        }
+    }
+
+    /// Returns the frame after the end of a branch.
+    fn end_branch(self, options: Options) -> Result<Frame, AllocError>
+        ensures { IfOk result (λ new. frame_of new ≡ ended options (frame_of self)) }
+    {
+        let mut starts = self.starts;
+        if keeps_branch(options, self.blank) {
+            starts.push(self.start)?;
+        }
+        Ok(Frame {
+            start: self.exit,
+            blank: true,
+            exit: self.exit,
+            starts,
+            rest_blank: both(self.blank, self.rest_blank),
+        })
+    }
+
+    /// Returns what the group skips to: its kept branches, or its exit if it has none.
+    fn targets(self) -> Result<Vec<usize>, AllocError>
+        ensures { IfOk result
+            (λ targets. targets.items ≡ targets_of (frame_of self).starts self.exit) }
+    {
+        let mut targets = self.starts;
+        if targets.is_empty() {
+            targets.push(self.exit)?;
+        } else {
+            targets.reverse();
+        }
+        Ok(targets)
+    }
+}
+
+fn both(a: bool, b: bool) -> bool
+    ensures { result ≡ (a && b) }
+{
+    a && b
+}
+
+/// Returns whether a branch is kept.
+fn keeps_branch(options: Options, blank: bool) -> bool
+    ensures { result ≡ (options.empty_alternates || not blank) }
+{
+    options.empty_alternates || !blank
+}
+
+/// Adds the states of tokens, which lead to a state. Returns where they begin.
+fn add_sequence(
+    alloc: Global,
+    builder: &mut Builder,
+    options: Options,
+    tokens: &[Token],
+    exit: usize,
+) -> Result<usize, AllocError>
+    requires nested { IsNested (flats tokens.now) }
+    requires exit { exit < size builder.old }
+    ensures within { IfOk result (λ s. s < size builder.new) }
+    ensures count { OnOk result
+        (size builder.new ≤ size builder.old + weight options (tokens_of tokens.now)) }
+    ensures grows { Grows builder.old builder.new }
+    ensures builds { IfOk result
+        (λ s. Builds options (tokens_of tokens.now) builder.old.states builder.new.states s exit) }
+{
+    let mut frame = Frame::new(alloc, exit);
+    let mut around = Vec::new(alloc);
+    for i in 0..tokens.len() {
+        let token = &tokens[tokens.len() - 1 - i];
+        match token {
+            Token::Close => {
+                let inner = Frame::new(alloc, frame.start);
+                around.push(frame)?;
+                frame = inner;
+            }
+            Token::Comma => {
+                frame = frame.end_branch(options)?;
+            }
+            Token::Open => {
+                let group = frame.end_branch(options)?;
+                let blank = group.rest_blank;
+                let targets = group.targets()?;
+                let start = builder.push_union(&targets)?;
+                let Some(outer) = around.pop() else {
+                    unreachable!()
+                };
+                frame = outer.lead(start, blank);
+            }
+            _ => {
+                let start = add_token(builder, options, token, frame.start)?;
+                frame = frame.lead(start, false);
+            }
+        }
+    }
+    Ok(frame.start)
+}
+
+/// Returns a builder of an automaton that no tokens were added to. The indexes of those that are added have to be below
+/// `index_count`. It allocates nothing.
+pub fn new_builder(alloc: Global, index_count: usize) -> Builder
+    ensures tokens { IsFor result [] }
+    ensures index_count { result.index_count ≡ index_count }
+    ensures size { size result ≡ 0 }
+    ensures reads { max_reads result ≡ 0 }
+{
+    Builder::new(alloc, index_count)
+}
+
+/// Adds the states of the tokens, and returns the state where they begin.
+fn add_whole(
+    alloc: Global,
+    builder: &mut Builder,
+    options: Options,
+    tokens: &[Token],
+    index: usize,
+) -> Result<usize, AllocError>
+    requires nested { IsNested (flats tokens.now) }
+    requires index { index < builder.old.index_count }
+    ensures within { IfOk result (λ s. s < size builder.new) }
+    ensures count { OnOk result
+        (size builder.new ≤ size builder.old + (weight options (tokens_of tokens.now) + 1)) }
+    ensures grows { Grows builder.old builder.new }
+    ensures builds { IfOk result
+        (λ s. BuildsWhole options (tokens_of tokens.now) index builder.old.states builder.new.states
+        s) }
+{
+    let end = builder.push_match(index)?;
+    if is_prefix_alone(tokens) {
+        let every = builder.push_loop(ByteSet::everything(), end)?;
+        Ok(every)
+    } else {
+        let start = add_sequence(alloc, builder, options, tokens, end)?;
+        Ok(start)
+    }
+}
+
+/// Adds tokens to an automaton that is being built, as the tokens of a whole glob. They get an index, which a run finds where
+/// they match the path under the options.
+///
+/// It takes time and memory linear in the tokens. Then the automaton is for the same tokens as before, although it may have more
+/// states.
+pub fn add_tokens(
+    alloc: Global,
+    builder: &mut Builder,
+    options: Options,
+    tokens: &[Token],
+    index: usize,
+) -> Result<(), AllocError>
+    requires nested { IsNested (flats tokens.now) }
+    requires index { index < builder.old.index_count }
+    ensures tokens { OnOk result
+        ((xs : List IndexedTokens) → IsFor builder.old xs
+        → IsFor builder.new (xs ++ indexed options (tokens_of tokens.now) index ∷ [])) }
+    ensures kept { OnErr result
+        ((xs : List IndexedTokens) → IsFor builder.old xs → IsFor builder.new xs) }
+    ensures index_count { builder.new.index_count ≡ builder.old.index_count }
+    ensures size { OnOk result
+        (size builder.new ≤ size builder.old + (weight options (tokens_of tokens.now) + 1)) }
+    ensures reads { OnOk result
+        (max_reads builder.new
+        ≤ max_reads builder.old + (weight options (tokens_of tokens.now) + 4)) }
+{
+    let start = add_whole(alloc, builder, options, tokens, index)?;
+    builder.add_start(start)?;
+    Ok(())
 }

@@ -5,16 +5,15 @@ ghost use Rattle.glob_syntax.specs.FlatTokens.{IsNested};
 ghost use Rattle.glob_syntax.specs.Views.{flats, tokens_of};
 ghost use Rattle.glob_strategy.specs.Strategies.{after_prefix, automaton_strategy, before_ending, sensitive_strategy};
 ghost use Rattle.glob_strategy.specs.StrategyMeaning.{IsStrategyOf, strategy_seen};
+ghost use Rattle.bit_sets.specs.Texts.{AllBytes};
+ghost use Rattle.glob_strategy.specs.Below.{HasBytes};
 
-mod bytes;
 mod conditions;
 mod key;
 
-use crate::excluded::{is_excluded, is_recursive_prefix};
-use bytes::has_bytes;
 use conditions::{
-    is_any_extension, is_beginning, is_below_folder, is_by_last_component, is_end,
-    is_last_component, is_last_components, is_whole_path,
+    is_any_extension, is_beginning, is_below_folder, is_by_last_component, is_end, is_excluded,
+    is_last_component, is_last_components, is_recursive_prefix, is_whole_path,
 };
 use glob_path::Key;
 use glob_syntax::{Options, Token};
@@ -142,3 +141,19 @@ fn automaton_strategy(options: Options, tokens: &[Token]) -> MatchStrategy
         MatchStrategy::Path
     }
 }
+
+/// The key or the extension of a strategy, if any, is bytes.
+fn has_bytes(strategy: &MatchStrategy)
+    ensures { HasBytes (strategy_seen strategy.now) }
+{
+    match strategy {
+        MatchStrategy::Key(key) => are_bytes(key.bytes()),
+        MatchStrategy::RequiredExtension(extension) => are_bytes(extension),
+        MatchStrategy::Excluded | MatchStrategy::Basename | MatchStrategy::Path => {}
+    }
+}
+
+/// The items of a slice of bytes are bytes.
+fn are_bytes(bytes: &[u8])
+    ensures { AllBytes bytes.now }
+{}

@@ -8,9 +8,8 @@ ghost use Rattle.glob_syntax.specs.FlatTokens.{IsNested};
 ghost use Rattle.glob_syntax.specs.Views.{flats, tokens_of};
 ghost use Rattle.glob_syntax.specs.inner.LexemeViews.{lexeme_of, lexemes_of};
 
-use crate::lexemes::lexeme::Lexeme;
-use crate::stars::is_whole_run;
-use crate::stars::piece::{Position, push_piece};
+use crate::lexemes::Lexeme;
+use crate::stars::{Position, is_whole_run, push_piece};
 use crate::token::Token;
 use std::alloc::{AllocError, Global};
 

@@ -6,7 +6,6 @@
 #![tactic(auto)]
 
 mod class;
-mod first_error;
 mod groups;
 pub mod laws;
 mod lexemes;
@@ -15,13 +14,9 @@ mod parse_error_kind;
 mod reading;
 mod stars;
 mod token;
-mod tokens;
 
 pub use class::Class;
-pub use first_error::error_offset;
 pub use options::Options;
 pub use parse_error_kind::{ParseErrorKind, ReadError};
-pub use reading::read_tokens;
-pub use token::Token;
-pub use token::copy::copy_of;
-pub use tokens::is_prefix_alone;
+pub use reading::{error_offset, read_tokens};
+pub use token::{Token, copy_of, is_prefix_alone};

@@ -1,7 +1,7 @@
 -- Equality of errors. Globs need no definition: two are equal if they have the same `GlobValue`.
 use Rattle.std.specs.Prelude.{◌≡◌, ℕ, Option, None, string_bytes}
-use Rattle.glob_text.specs.declared.error.kind.ErrorKind.{ErrorKind}
-use Rattle.glob_text.specs.declared.error.kind.ErrorKind.TheVariants as kinds
+use Rattle.glob_text.specs.declared.error.ErrorKind.{ErrorKind}
+use Rattle.glob_text.specs.declared.error.ErrorKind.TheVariants as kinds
 use Rattle.glob_text.specs.declared.value_error.ValueErrorKind.{ValueErrorKind}
 use Rattle.glob_text.specs.declared.value_error.ValueErrorKind.TheVariants as causes
 use Rattle.glob_text.specs.Errors.{ErrorValue}

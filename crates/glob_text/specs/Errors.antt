@@ -1,7 +1,7 @@
 -- Errors of globs, and the texts that they display.
 use Rattle.std.specs.Prelude.{◌≡◌, ℕ, List, ◌++◌, Option, Some, None, encode_utf8, codes, string_bytes, ◌⊎◌, Result, Ok, Err}
-use Rattle.glob_text.specs.declared.error.kind.ErrorKind.{ErrorKind}
-use Rattle.glob_text.specs.declared.error.kind.ErrorKind.TheVariants as kinds
+use Rattle.glob_text.specs.declared.error.ErrorKind.{ErrorKind}
+use Rattle.glob_text.specs.declared.error.ErrorKind.TheVariants as kinds
 use Rattle.glob_syntax.specs.declared.parse_error_kind.ParseErrorKind.{ParseErrorKind}
 use Rattle.glob_syntax.specs.declared.parse_error_kind.ParseErrorKind.TheVariants as faults
 use Rattle.glob_syntax.specs.declared.options.Options.{Options}

@@ -1,7 +1,7 @@
 -- Errors of reading a value.
 use Rattle.std.specs.Prelude.{◌≡◌, ◌⊎◌, ℕ, List, ◌++◌, Bool, true, false, Option, Some, None, Result, Err, codes, decimal, if◌then◌else◌}
-use Rattle.glob_text.specs.declared.error.kind.ErrorKind.{ErrorKind}
-use Rattle.glob_text.specs.declared.error.kind.ErrorKind.TheVariants as causes
+use Rattle.glob_text.specs.declared.error.ErrorKind.{ErrorKind}
+use Rattle.glob_text.specs.declared.error.ErrorKind.TheVariants as causes
 use Rattle.glob_text.specs.declared.value_error.ValueErrorKind.{ValueErrorKind}
 use Rattle.glob_text.specs.declared.value_error.ValueErrorKind.TheVariants as kinds
 use Rattle.glob_text.specs.Errors.{out_of_memory, error_text}

@@ -11,8 +11,7 @@ mod reading;
 mod regex_text;
 mod value_error;
 
-pub use error::Error;
-pub use error::kind::ErrorKind;
+pub use error::{Error, ErrorKind};
 pub use escaping::escape;
 pub use given::GivenGlobs;
 pub use reading::tokens_of_text;

@@ -7,8 +7,7 @@ ghost use Rattle.glob_text.specs.ValueErrors.{of_element, value_kind_text, is_me
 ghost use Rattle.glob_text.specs.inner.Equality.{same_value_kind, same_value_kind_laws, same_value_error, same_value_error_laws};
 ghost use Rattle.glob_text.specs.declared.value_error.ValueErrorKind.TheVariants.{Glob};
 
-use crate::error::Error;
-use crate::error::kind::ErrorKind;
+use crate::error::{Error, ErrorKind};
 use std::alloc::{AllocError, AllocFailed};
 use std::fmt;
 use std::marker::Model;

@@ -6,8 +6,8 @@ use Rattle.glob_syntax.specs.ErrorOffset.{error_offset}
 use Rattle.glob_syntax.specs.Reading.{HasParseError}
 use Rattle.glob_syntax.specs.declared.parse_error_kind.ParseErrorKind.{ParseErrorKind}
 use Rattle.glob_text.specs.Errors.{kind_of, kind_text, text_with}
-use Rattle.glob_text.specs.declared.error.kind.ErrorKind.{ErrorKind}
-use Rattle.glob_text.specs.declared.error.kind.ErrorKind.TheVariants as kinds
+use Rattle.glob_text.specs.declared.error.ErrorKind.{ErrorKind}
+use Rattle.glob_text.specs.declared.error.ErrorKind.TheVariants as kinds
 use Rattle.globset_c.specs.Options.{options_of}
 use Rattle.globset_c.specs.declared.error.TextError.{TextError}
 

@@ -3,7 +3,7 @@
 ghost use Rattle.std.specs.Prelude.{◌≡◌, ◌≢◌, Some, None, [], ◌∷◌, IfOk, IfSome, string_bytes};
 ghost use Rattle.std.specs.Str.{IsUtf8};
 ghost use Rattle.glob_text.specs.Errors.{kind_text, text_with};
-ghost use Rattle.glob_text.specs.declared.error.kind.ErrorKind.{ErrorKind};
+ghost use Rattle.glob_text.specs.declared.error.ErrorKind.{ErrorKind};
 ghost use Rattle.globset_c.specs.Capacity.{IsWritten, IsTooLong};
 ghost use Rattle.globset_c.specs.Errors.{IfTold, IsTold};
 ghost use Rattle.globset_c.specs.Statuses.{IsOneOf};

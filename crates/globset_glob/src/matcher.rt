@@ -1,26 +1,25 @@
 //! Matchers of a glob.
 
-ghost use Rattle.std.specs.Prelude.{◌≡◌, ◌+◌, ◌≤◌, ◌↔◌, IfOk, IsOk, IsOkUnless, IsTrue};
+ghost use Rattle.std.specs.Prelude.{◌≡◌, ◌+◌, ◌≤◌, ◌↔◌, IfOk, IsOk, IsOkUnless, IsTrue, IfSome};
 ghost use Rattle.lazy_dfa.specs.Sets.{sets_capacity};
 ghost use Rattle.glob_matching.specs.ScratchValue.{FitsMatcher};
 ghost use Rattle.glob_text.specs.Errors.{out_of_memory};
 ghost use Rattle.glob_text.specs.Cost.{cost, max_visits, max_visits_below};
 ghost use Rattle.globset_glob.specs.GlobBelow.{GlobMatchesBelow};
+ghost use Rattle.glob_text.specs.GlobMatches.{GlobValue, glob_matches};
+ghost use Rattle.globset_glob.specs.inner.GlobNfa.{IsAutomatonOf, IsCacheOf, IsStrategyOfMatcher, form_states};
 
-mod searcher;
-mod strategy;
-
-use crate::glob::{Glob, options_of};
+use crate::glob::{Glob, options_of, tokens_of};
 use bit_sets::Visits;
-use glob_matching::{NeedsScratch, Scratch};
-use glob_path::{AsPath, Candidate};
+use glob_matching::{Compiled, DEFAULT_DFA_SIZE_LIMIT, NeedsScratch, Scratch};
+use glob_path::{AsPath, Candidate, Key};
+use glob_strategy::{MatchStrategy, add_tokens, new_builder, strategy_of};
 use glob_text::Error;
-use lazy_dfa::StateSets;
-pub use searcher::MatcherSearcher;
-use std::alloc::AllocError;
+use lazy_dfa::{Cache, StateSets};
+use std::alloc::{AllocError, Global};
 use std::fmt;
 use std::marker::Model;
-use strategy::Strategy;
+use std::sync::Arc;
 
 /// Matches a glob against paths.
 ///
@@ -286,5 +285,291 @@ impl fmt::Debug for GlobMatcher {
             .field("glob", &self.glob)
             .field("kept_bytes", &self.kept_bytes())
             .finish()
+    }
+}
+
+/// How a matcher decides whether its glob matches a path.
+#[derive(Drop)]
+pub enum Strategy {
+    /// A key, which is compared with the path or a part of it.
+    Key(Key),
+    /// An automaton, which is run over the path. Clones of a matcher share it.
+    Automaton(Arc<Compiled>),
+}
+
+impl Strategy {
+    /// Returns the key of a glob if a key decides it, and otherwise an automaton, whose caches take at most `dfa_size_limit`
+    /// bytes.
+    pub fn of(glob: &Glob, dfa_size_limit: usize) -> Result<Strategy, AllocError>
+        ensures { IfOk result (IsStrategyOfMatcher glob.now) }
+    {
+        if let MatchStrategy::Key(key) = strategy_of(
+            glob.allocator(),
+            options_of(glob),
+            tokens_of(glob),
+        )? {
+            return Ok(Strategy::Key(key));
+        }
+        let automaton = automaton_of(glob, dfa_size_limit)?;
+        Ok(Strategy::Automaton(Arc::new(glob.allocator(), automaton)?))
+    }
+
+    /// Returns how many bytes the caches take that an automaton keeps between calls.
+    pub fn kept_bytes(&self) -> usize {
+        match self {
+            Strategy::Key(_) => 0,
+            Strategy::Automaton(automaton) => automaton.kept_bytes(),
+        }
+    }
+
+    /// Keeps a cache in the automaton, as [`Compiled::keep_cache`] does.
+    pub fn keep_cache(&self) {
+        if let Strategy::Automaton(automaton) = self {
+            automaton.keep_cache();
+        }
+    }
+
+    /// Returns sets with room for the states of an automaton.
+    pub fn new_sets(&self, alloc: Global) -> Result<StateSets, AllocError>
+        ensures { IfOk result (λ sets. form_states self.now ≤ sets_capacity sets) }
+    {
+        let mut sets = StateSets::new(alloc);
+        if let Strategy::Automaton(automaton) = self {
+            sets.reserve(automaton.state_count())?;
+        }
+        Ok(sets)
+    }
+
+    /// Returns a cache with no rows for an automaton, as [`Compiled::new_cache`] does, or `None` if a key decides. Returns an
+    /// error if memory runs out.
+    pub fn new_cache(&self, alloc: Global) -> Result<Option<Cache>, AllocError>
+        ensures { IfOk result (λ made. IfSome made (IsCacheOf self.now)) }
+    {
+        match self {
+            Strategy::Key(_) => Ok(None),
+            Strategy::Automaton(automaton) => automaton.new_cache(alloc),
+        }
+    }
+
+    /// Returns whether the glob matches a path. An automaton runs by the rows of the cache, or, without one, as
+    /// [`Compiled::is_match`] does. It allocates nothing if a key decides or the sets have room.
+    pub fn is_match(
+        &self,
+        path: &Candidate<'_>,
+        sets: &mut StateSets,
+        cache: &mut Option<Cache>,
+        visits: &mut Visits,
+    ) -> Result<bool, AllocError>
+        requires { IfSome cache.old (IsCacheOf self.now) }
+        ensures cache { cache.new ≡ cache.old }
+        ensures some { IfOk result
+            (λ yes. (g : GlobValue) → IsStrategyOfMatcher g self.now
+            → yes ≡ glob_matches g path.now) }
+        ensures room { form_states self.now ≤ sets_capacity sets.old → IsOk result }
+        ensures kept { sets_capacity sets.old ≤ sets_capacity sets.new }
+        ensures visits { (g : GlobValue) → IsStrategyOfMatcher g self.now
+            → visits.new ≤ visits.old + max_visits g path.now }
+        ensures counted { visits.old ≤ visits.new }
+    {
+        match self {
+            Strategy::Key(key) => {
+                // As in a table, a look at a key is one visit.
+                visits.tick();
+                Ok(key.matches(path))
+            }
+            Strategy::Automaton(automaton) => {
+                automaton.is_match(path.path(), sets, cache, visits)
+            }
+        }
+    }
+
+    /// Returns whether the glob matches some path below a folder. It runs as [`Strategy::is_match`] does. It allocates nothing if
+    /// a key decides or the sets have room.
+    pub fn can_match_below(
+        &self,
+        folder: &Candidate<'_>,
+        sets: &mut StateSets,
+        cache: &mut Option<Cache>,
+        visits: &mut Visits,
+    ) -> Result<bool, AllocError>
+        requires { IfSome cache.old (IsCacheOf self.now) }
+        ensures cache { cache.new ≡ cache.old }
+        ensures some { IfOk result
+            (λ yes. (g : GlobValue) → IsStrategyOfMatcher g self.now
+            → IsTrue yes ↔ GlobMatchesBelow g folder.now) }
+        ensures room { form_states self.now ≤ sets_capacity sets.old → IsOk result }
+        ensures kept { sets_capacity sets.old ≤ sets_capacity sets.new }
+        ensures visits { (g : GlobValue) → IsStrategyOfMatcher g self.now
+            → visits.new ≤ visits.old + max_visits_below g folder.now }
+        ensures counted { visits.old ≤ visits.new }
+    {
+        match self {
+            Strategy::Key(key) => {
+                visits.tick();
+                Ok(key.can_match_below(folder.path()))
+            }
+            Strategy::Automaton(automaton) => {
+                automaton.can_match_after(folder.path(), b'/', sets, cache, visits)
+            }
+        }
+    }
+
+    /// Returns the strategy of an equal glob: the same automaton, which is shared, or the key once more.
+    pub fn copy_for(&self, glob: &Glob) -> Result<Strategy, AllocError>
+        requires { IsStrategyOfMatcher glob.now self.now }
+        ensures { IfOk result (IsStrategyOfMatcher glob.now) }
+    {
+        match self {
+            Strategy::Key(_) => Strategy::of(glob, DEFAULT_DFA_SIZE_LIMIT),
+            Strategy::Automaton(automaton) => Ok(Strategy::Automaton(Arc::try_clone(automaton)?)),
+        }
+    }
+}
+
+/// Returns the automaton of a glob, whose tokens have the index 0. Its rows take at most `dfa_size_limit` bytes between calls.
+fn automaton_of(glob: &Glob, dfa_size_limit: usize) -> Result<Compiled, AllocError>
+    ensures { IfOk result (λ a. IsAutomatonOf glob.now a) }
+{
+    let alloc = glob.allocator();
+    let mut builder = new_builder(alloc, 1);
+    add_tokens(alloc, &mut builder, options_of(glob), tokens_of(glob), 0)?;
+    let automaton = builder.finish();
+    let states = automaton.state_count();
+    Compiled::new(alloc, dfa_size_limit, automaton, states)
+}
+
+/// A [`GlobMatcher`] with all the memory that a thread needs to match paths. [`MatcherSearcher::new`] allocates it: no other call
+/// allocates, and none can fail.
+///
+/// Searchers of a matcher share its automaton. If this has rows, each searcher has a cache of its own for them, and uses no cache
+/// of the matcher. A program with several threads makes a searcher for each thread.
+///
+/// Contracts see a searcher as its glob. What earlier calls left in it has no effect.
+///
+/// ```rust
+/// use globset::{Candidate, Glob, MatcherSearcher};
+///
+/// let matcher = Glob::new(alloc, "*{foo,bar}*")?.compile_matcher()?;
+/// let mut searcher = MatcherSearcher::new(alloc, &matcher)?;
+/// assert!(rt; searcher.is_match(&Candidate::new("a/foo")));
+/// assert!(rt; !searcher.is_match(&Candidate::new("a/fo")));
+/// ```
+#[derive(Drop)]
+pub struct MatcherSearcher {
+    matcher: GlobMatcher,
+    /// The matcher's strategy, copied: contracts see a matcher as its glob, and the cache is of an automaton.
+    strategy: Strategy,
+    sets: StateSets,
+    /// `None` if a key decides, or the automaton has no rows.
+    cache: Option<Cache>,
+}
+
+impl Model for MatcherSearcher {
+    ghost use Rattle.std.specs.Prelude.{◌≤◌, IfSome};
+    ghost use Rattle.lazy_dfa.specs.Sets.{sets_capacity};
+    ghost use Rattle.glob_text.specs.GlobMatches.{GlobValue};
+    ghost use Rattle.globset_glob.specs.inner.GlobNfa.{IsCacheOf, IsStrategyOfMatcher, form_states};
+
+    ghost Value = { GlobValue };
+
+    ghost view = { λ s. s.matcher };
+
+    ghost invariant = { λ s. IsStrategyOfMatcher s.matcher s.strategy
+        × ((form_states s.strategy ≤ sets_capacity s.sets) × IfSome s.cache (IsCacheOf s.strategy)) };
+}
+
+impl MatcherSearcher {
+    /// Returns a searcher that matches as the matcher does. It copies the matcher's glob, shares its automaton, and allocates two
+    /// bits for each state of this: at most 8 bits for each byte of the glob's text and 8 more, or four times as much under
+    /// `whole_character`. It also allocates a cache of rows: a quarter of the matcher's limit
+    /// ([`Glob::compile_matcher_with_limit`](crate::Glob::compile_matcher_with_limit)), so 4 MiB by default, and at most 8 MiB.
+    /// The cache is larger only if the automaton has too many states for a row to fit.
+    ///
+    /// Fails only if memory runs out or 2^63 matchers share the automaton.
+    pub fn new(alloc: Global, matcher: &GlobMatcher) -> Result<MatcherSearcher, Error>
+        ensures ok { IfOk result (λ s. s ≡ matcher.now) }
+        ensures err { IsOkUnless result out_of_memory }
+    {
+        let matcher = matcher.clone()?;
+        let strategy = matcher.copy_strategy()?;
+        let sets = strategy.new_sets(alloc)?;
+        let cache = strategy.new_cache(alloc)?;
+        Ok(MatcherSearcher {
+            matcher,
+            strategy,
+            sets,
+            cache,
+        })
+    }
+
+    /// Returns the matcher that the searcher matches as.
+    pub fn matcher(&self) -> &GlobMatcher
+        ensures { result.now ≡ self.now }
+    {
+        &self.matcher
+    }
+
+    /// Returns the size of its cache of rows in bytes, or 0 if it has none. It also has a few bits for each state of the
+    /// automaton.
+    ///
+    /// A searcher takes its memory when it is made, and no more later.
+    pub fn bytes(&self) -> usize {
+        match &self.cache {
+            Some(cache) => cache.bytes(),
+            None => 0,
+        }
+    }
+
+    /// Returns whether the glob matches a candidate's path, as [`GlobMatcher::is_match_candidate`] does.
+    pub fn is_match(&mut self, path: &Candidate<'_>) -> bool
+        ensures matches { result ≡ glob_matches self.old path.now }
+        ensures kept { self.new ≡ self.old }
+    {
+        let mut visits = Visits::new();
+        self.is_match_visits(path, &mut visits)
+    }
+
+    /// Does what [`is_match`](MatcherSearcher::is_match) does, and adds its visits to `visits`: with the bound of
+    /// [`GlobMatcher::is_match_visits`].
+    pub fn is_match_visits(&mut self, path: &Candidate<'_>, visits: &mut Visits) -> bool
+        ensures matches { result ≡ glob_matches self.old path.now }
+        ensures kept { self.new ≡ self.old }
+        ensures visits { visits.new ≤ visits.old + max_visits self.old path.now }
+        ensures counted { visits.old ≤ visits.new }
+    {
+        self.strategy
+            .is_match(path, &mut self.sets, &mut self.cache, visits)
+            .unwrap()
+    }
+
+    /// Returns whether the glob matches some path below a candidate's path, as [`GlobMatcher::can_match_below_candidate`] does.
+    ///
+    /// ```rust
+    /// use globset::{Candidate, Glob, MatcherSearcher};
+    ///
+    /// let matcher = Glob::new(alloc, "docs/{a,b}*.md")?.compile_matcher()?;
+    /// let mut searcher = MatcherSearcher::new(alloc, &matcher)?;
+    /// assert!(rt; searcher.can_match_below(&Candidate::new("docs")));
+    /// assert!(rt; !searcher.can_match_below(&Candidate::new("src")));
+    /// ```
+    pub fn can_match_below(&mut self, folder: &Candidate<'_>) -> bool
+        ensures some { IsTrue result ↔ GlobMatchesBelow self.old folder.now }
+        ensures kept { self.new ≡ self.old }
+    {
+        let mut visits = Visits::new();
+        self.can_match_below_visits(folder, &mut visits)
+    }
+
+    /// Does what [`can_match_below`](MatcherSearcher::can_match_below) does, and adds its visits to `visits`: with the bound of
+    /// [`GlobMatcher::can_match_below_visits`].
+    pub fn can_match_below_visits(&mut self, folder: &Candidate<'_>, visits: &mut Visits) -> bool
+        ensures some { IsTrue result ↔ GlobMatchesBelow self.old folder.now }
+        ensures kept { self.new ≡ self.old }
+        ensures visits { visits.new ≤ visits.old + max_visits_below self.old folder.now }
+        ensures counted { visits.old ≤ visits.new }
+    {
+        self.strategy
+            .can_match_below(folder, &mut self.sets, &mut self.cache, visits)
+            .unwrap()
     }
 }

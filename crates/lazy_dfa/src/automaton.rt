@@ -13,8 +13,8 @@ ghost use Rattle.lazy_dfa.specs.inner.Sources.{FitsU32, ListsEnds, RunsFor};
 
 use crate::classes::ByteClasses;
 use crate::lists::put_lowered;
-use crate::state_sets::StateSets;
 use crate::stepping;
+use crate::stepping::StateSets;
 use bit_sets::{IndexSet, StateSet, Visits};
 use byte_nfa::{Nfa, shared};
 use std::alloc::{AllocError, Global};

@@ -14,9 +14,8 @@ mod lists;
 mod pass;
 mod rows;
 mod run;
-mod state_sets;
 mod stepping;
 
 pub use automaton::LazyDfa;
 pub use cache::Cache;
-pub use state_sets::StateSets;
+pub use stepping::StateSets;

@@ -12,7 +12,6 @@ ghost use Rattle.lazy_dfa.specs.inner.Classes.{AreEquivalenceClasses};
 ghost use Rattle.lazy_dfa.specs.inner.Sources.{half, FitsU32};
 ghost use Rattle.lazy_dfa.specs.inner.Rows.{AcceptsIn, AcceptsRow, HasEnds, HasMarks, GoesTo, IsDeadBy, IsNext, IsEnd, IsEntry, IsFirst, IsSound, AreListed, KeepsRows, HasSpace, states_of, place_of, max_entries, marked, BeginsAt, IsAt, IsStep};
 
-mod copied;
 mod known;
 mod stepped;
 

@@ -1,6 +1,6 @@
 //! Texts that are read by sets of states, without rows.
 
-ghost use Rattle.std.specs.Prelude.{◌≡◌, ℕ, ◌+◌, ◌*◌, ◌<◌, ◌≤◌, ◌||◌, ◌⊎◌, ◌↔◌, ◌++◌, ◌∷◌, [], List, length, min, Some, IsTrue, IsFalse, MatchOption};
+ghost use Rattle.std.specs.Prelude.{◌≡◌, ℕ, ◌+◌, ◌*◌, ◌<◌, ◌≤◌, ◌||◌, ◌⊎◌, ◌↔◌, ◌++◌, ◌∷◌, [], List, length, min, Some, IsTrue, IsFalse, MatchOption, OnOk, IsOk};
 ghost use Rattle.bit_sets.specs.Indexes.{index_capacity};
 ghost use Rattle.bit_sets.specs.StateSets.{has_state, state_capacity};
 ghost use Rattle.bit_sets.specs.Texts.{AllBytes};
@@ -13,9 +13,11 @@ ghost use Rattle.byte_nfa.specs.inner.Views.{GoesBelow};
 ghost use Rattle.lazy_dfa.specs.inner.Rows.{FindsBy};
 ghost use Rattle.lazy_dfa.specs.inner.Sources.{half};
 ghost use Rattle.lazy_dfa.specs.inner.Stepping.{IsTaken, IsLed, IsRunOn, IsUndecidedStep, DecidesSome, AddsDecided, AddsFoundFrom};
+ghost use Rattle.lazy_dfa.specs.Sets.{sets_capacity};
 
 use bit_sets::{IndexSet, StateSet, Visits};
 use byte_nfa::Nfa;
+use std::alloc::{AllocError, Global};
 use std::mem::swap;
 
 /// What a state is, or does by a byte.
@@ -370,4 +372,46 @@ fn told_by(index: usize, half: usize) -> usize
     ensures { ((index < half) × (result ≡ index)) ⊎ ((half ≤ index) × (result + half ≡ index)) }
 {
     if index < half { index } else { index - half }
+}
+
+/// The two sets of states that a run changes between: the states that the text so far leads to, and the states after another
+/// byte.
+///
+/// They serve runs of any automata, in any order. A run clears each set before it uses it, so earlier runs have no effect.
+#[derive(Drop)]
+pub struct StateSets {
+    pub(crate) current: StateSet,
+    pub(crate) next: StateSet,
+    /// The most states that room was made for.
+    reserved: usize,
+}
+
+impl StateSets {
+    /// Returns sets with room for no state. It allocates nothing.
+    pub fn new(alloc: Global) -> StateSets
+        ensures { sets_capacity result ≡ 0 }
+    {
+        StateSets {
+            current: StateSet::empty(alloc),
+            next: StateSet::empty(alloc),
+            reserved: 0,
+        }
+    }
+
+    /// Returns whether there is room for `states` states.
+    pub fn has_capacity_for(&self, states: usize) -> bool {
+        states <= self.reserved
+    }
+
+    /// Makes room for `states` states, if there is less. It allocates two bits for each.
+    pub fn reserve(&mut self, states: usize) -> Result<(), AllocError>
+        ensures ok { OnOk result (states ≤ sets_capacity self.new) }
+        ensures kept { sets_capacity self.old ≤ sets_capacity self.new }
+        ensures memory { states ≤ sets_capacity self.old → IsOk result }
+    {
+        self.current.reserve(states)?;
+        self.next.reserve(states)?;
+        self.reserved = self.reserved.max(states);
+        Ok(())
+    }
 }

@@ -9,7 +9,6 @@
 mod automata;
 mod caches;
 mod matcher;
-mod matching;
 mod path_part;
 
 pub use caches::Caches;

@@ -7,8 +7,8 @@ use Rattle.std.specs.Cmp.Lexicographic.{bytes_decides}
 use Rattle.std.proofs.lemmas.List.{reverse-append, reverse-reverse, map-append, length-reverse}
 use Rattle.std.proofs.lemmas.List.Folds.{flat_map-map}
 use Rattle.byte_keys.specs.Entries.{Entry, indexes_under}
-use Rattle.byte_keys.specs.declared.anchor.Anchor.{Anchor}
-use Rattle.byte_keys.specs.declared.anchor.Anchor.TheVariants.{Start, End}
+use Rattle.byte_keys.specs.declared.trie.Anchor.{Anchor}
+use Rattle.byte_keys.specs.declared.trie.Anchor.TheVariants.{Start, End}
 use Rattle.byte_keys.specs.declared.tree.Tree.{Tree}
 use Rattle.byte_keys.specs.Texts.{Texts, prefixes, suffixes, parts, found}
 use Rattle.byte_keys.specs.inner.Anchors.{from_anchor, entry_from_anchor}

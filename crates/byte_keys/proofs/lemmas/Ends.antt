@@ -1,7 +1,7 @@
 -- The ends of rows' keys.
 use Rattle.std.proofs.Common.{◌≡◌, ℕ, true, List, ◌+◌, ◌<◌, length, get_or, take}
 use Rattle.std.proofs.lemmas.List.Elements.{All-more, All-weaker}
-use Rattle.byte_keys.specs.declared.ends.Ends.{Ends}
+use Rattle.byte_keys.specs.declared.rows.Ends.{Ends}
 use Rattle.byte_keys.specs.declared.rows.Row.{Row}
 use Rattle.byte_keys.specs.inner.Ends.{ends_have, HasEnds}
 use Rattle.byte_keys.specs.inner.Rows.{row_key}

@@ -15,8 +15,8 @@ use Rattle.std.proofs.lemmas.List.{get_or-map, map-set, get_or_default, length-m
 use Rattle.std.proofs.lemmas.List.Edits.{map_over_more}
 use Rattle.std.proofs.lemmas.List.Sorted.{ranks_by, sorted_far}
 use Rattle.byte_keys.specs.Entries.{entry, indexes_under}
-use Rattle.byte_keys.specs.declared.anchor.Anchor.TheVariants.{End}
-use Rattle.byte_keys.specs.declared.text.Text.{Text}
+use Rattle.byte_keys.specs.declared.trie.Anchor.TheVariants.{End}
+use Rattle.byte_keys.specs.declared.trie.Text.{Text}
 use Rattle.byte_keys.specs.Texts.{entry_of}
 use Rattle.byte_keys.specs.inner.Anchors.{entry_from_anchor}
 use Rattle.byte_keys.specs.inner.Building.{IsUpTo, IsOrdered}

@@ -7,8 +7,8 @@ use Rattle.std.proofs.lemmas.Bool.{cases_lt, true≢false}
 use Rattle.std.proofs.lemmas.Bool.Decides.{nat_tests}
 use Rattle.std.proofs.lemmas.List.{map-append, length-drop}
 use Rattle.byte_keys.specs.Entries.{Entry, indexes_under}
-use Rattle.byte_keys.specs.declared.text.Text.{Text}
-use Rattle.byte_keys.specs.declared.tree.build.Span.{Span}
+use Rattle.byte_keys.specs.declared.trie.Text.{Text}
+use Rattle.byte_keys.specs.declared.tree.Span.{Span}
 use Rattle.byte_keys.specs.inner.Building.{rest_of, next_of, rests, rests_of, IsUpTo, IsSpan, picked, IsSplit}
 use Rattle.byte_keys.proofs.lemmas.Ranges.{all_in_range, range_split, range-map, all_append, all_weaker, rising_push}
 use Rattle.byte_keys.proofs.lemmas.Walks.{drop_some, drop_none}

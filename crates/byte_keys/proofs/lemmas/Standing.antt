@@ -5,10 +5,10 @@ use Rattle.std.specs.List.Sorted.{IsStrictlyIncreasing}
 use Rattle.std.proofs.lemmas.Bool.{cases_lt}
 use Rattle.std.proofs.lemmas.List.{get_or_append_left, get_or-append-add, map-append, length-map}
 use Rattle.byte_keys.specs.Entries.{Entry, indexes_under}
-use Rattle.byte_keys.specs.declared.text.Text.{Text}
+use Rattle.byte_keys.specs.declared.trie.Text.{Text}
 use Rattle.byte_keys.specs.declared.tree.Node.{Node}
 use Rattle.byte_keys.specs.declared.tree.Tree.{Tree}
-use Rattle.byte_keys.specs.declared.tree.build.Span.{Span}
+use Rattle.byte_keys.specs.declared.tree.Span.{Span}
 use Rattle.byte_keys.specs.Texts.{entry_of}
 use Rattle.byte_keys.specs.inner.Nodes.{place_in, node_of, held_of, child_of, follow, under, node_count, IsNode, IsTree}
 use Rattle.byte_keys.specs.inner.Building.{rests_of, AreWithin, AreSpans, picked, IsAdded, lists_at, IsSound, Stands}

@@ -1,8 +1,8 @@
 -- Paths and texts as they are read from a side of a path: from the end each is reversed.
 use Rattle.std.specs.Prelude.{ℕ, List, reverse}
 use Rattle.byte_keys.specs.Entries.{Entry, entry}
-use Rattle.byte_keys.specs.declared.anchor.Anchor.{Anchor}
-use Rattle.byte_keys.specs.declared.anchor.Anchor.TheVariants.{Start, End}
+use Rattle.byte_keys.specs.declared.trie.Anchor.{Anchor}
+use Rattle.byte_keys.specs.declared.trie.Anchor.TheVariants.{Start, End}
 
 -- the bytes, in the order of reading
 abbrev pub from_anchor : Anchor → List ℕ → List ℕ

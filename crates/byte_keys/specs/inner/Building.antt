@@ -3,10 +3,10 @@ use Rattle.std.specs.Prelude.{◌≡◌, ℕ, ◌+◌, ◌<◌, ◌≤◌, ◌==
 use Rattle.std.specs.List.{AllWithin, AllByRecursion}
 use Rattle.std.specs.List.Sorted.{IsStrictlyIncreasing}
 use Rattle.byte_keys.specs.Entries.{Entry, entry, indexes_under}
-use Rattle.byte_keys.specs.declared.text.Text.{Text}
+use Rattle.byte_keys.specs.declared.trie.Text.{Text}
 use Rattle.byte_keys.specs.declared.tree.Node.{Node}
 use Rattle.byte_keys.specs.declared.tree.Tree.{Tree}
-use Rattle.byte_keys.specs.declared.tree.build.Span.{Span}
+use Rattle.byte_keys.specs.declared.tree.Span.{Span}
 use Rattle.byte_keys.specs.Texts.{entry_of}
 use Rattle.byte_keys.specs.inner.Nodes.{node_of, held_of, child_of, follow, node_count, IsNode}
 

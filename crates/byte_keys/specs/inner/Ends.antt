@@ -2,7 +2,7 @@
 use Rattle.std.specs.Prelude.{ℕ, ◌≡◌, ◌-◌, Bool, true, cond, List, nat_eq, length, slice_index}
 use Rattle.std.specs.List.{All}
 use Rattle.bit_sets.specs.Bytes.{has_byte}
-use Rattle.byte_keys.specs.declared.ends.Ends.{Ends}
+use Rattle.byte_keys.specs.declared.rows.Ends.{Ends}
 use Rattle.byte_keys.specs.declared.rows.Row.{Row}
 use Rattle.byte_keys.specs.inner.Rows.{row_key}
 

@@ -2,7 +2,7 @@
 use Rattle.std.specs.Prelude.{◌≡◌, ℕ, ◌<◌, ◌^◌, List, [], Option, Some, None, length, map}
 use Rattle.std.specs.Global.{Box}
 use Rattle.byte_keys.specs.Entries.{Entry, indexes_under}
-use Rattle.byte_keys.specs.declared.anchor.Anchor.{Anchor}
+use Rattle.byte_keys.specs.declared.trie.Anchor.{Anchor}
 use Rattle.byte_keys.specs.declared.tree.Tree.{Tree}
 use Rattle.byte_keys.specs.inner.Anchors.{entry_from_anchor}
 use Rattle.byte_keys.specs.inner.Nodes.{under, IsTree}

@@ -9,7 +9,7 @@ use Rattle.bit_sets.specs.declared.byte_set.ByteSet.{ByteSet}
 use Rattle.byte_nfa.specs.Building.{Agrees, Pushes}
 use Rattle.byte_nfa.specs.Runs.{size}
 use Rattle.byte_nfa.specs.Steps.{State, bytes_state, union_state, loop_state, match_state, state, NfaValue, HasNumber, Accepts, ends, by_byte, by_skip, by_out, by_stay}
-use Rattle.byte_nfa.specs.declared.sharing.known.Known.{Known}
+use Rattle.byte_nfa.specs.declared.sharing.Known.{Known}
 use Rattle.byte_nfa.specs.inner.Chunks.{with_next, IsChunk, IsPushedFor}
 use Rattle.byte_nfa.specs.inner.Known.{IsSharing}
 use Rattle.byte_nfa.specs.inner.Lists.{AcceptsSome, AcceptsBefore, StandForFirst, IsStateFor}

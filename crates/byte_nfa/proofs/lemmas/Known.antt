@@ -3,7 +3,7 @@ use Rattle.std.proofs.Common.{◌≡◌, ℕ, zero, suc, ◌⊎◌, inl, inr, Li
 use Rattle.std.specs.Prelude.{Some, None, slice_get}
 use Rattle.std.proofs.Math.Logic.{⊎_elim}
 use Rattle.byte_nfa.specs.Steps.{NfaValue}
-use Rattle.byte_nfa.specs.declared.sharing.known.Known.{Known}
+use Rattle.byte_nfa.specs.declared.sharing.Known.{Known}
 use Rattle.byte_nfa.specs.inner.Known.{IsKnown, IsSharing}
 use Rattle.byte_nfa.specs.inner.Lists.{AcceptAlike, IsStateFor}
 use Rattle.byte_nfa.proofs.lemmas.Lists.{state_of_alike}

@@ -2,7 +2,7 @@
 use Rattle.std.specs.Prelude.{◌≡◌, ℕ, ◌<◌, ◌≤◌, List, [], ◌∷◌, slice_index}
 use Rattle.byte_nfa.specs.Building.{Pushes}
 use Rattle.byte_nfa.specs.Steps.{State, bytes_state, union_state, loop_state, match_state, state, NfaValue, HasNumber}
-use Rattle.byte_nfa.specs.declared.sharing.known.Known.{Known}
+use Rattle.byte_nfa.specs.declared.sharing.Known.{Known}
 use Rattle.byte_nfa.specs.inner.Known.{IsKnown}
 
 -- the state, with the number n for the state that it goes on to

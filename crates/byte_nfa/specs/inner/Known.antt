@@ -1,7 +1,7 @@
 -- Lists that a state was made for.
 use Rattle.std.specs.Prelude.{◌≡◌, ℕ, ◌⊎◌, List, [], ◌∷◌}
 use Rattle.byte_nfa.specs.Steps.{NfaValue}
-use Rattle.byte_nfa.specs.declared.sharing.known.Known.{Known}
+use Rattle.byte_nfa.specs.declared.sharing.Known.{Known}
 use Rattle.byte_nfa.specs.inner.Lists.{IsStateFor}
 
 -- some entry has the list l and the state u

@@ -3,8 +3,8 @@ use Rattle.std.proofs.Common.{◌≡◌, ℕ, ◌⊎◌, inl, inr, Bool, List, [
 use Rattle.std.specs.Prelude.{◌≢◌, ◌↔◌, Contains}
 use Rattle.std.proofs.Math.Logic.{⊎_elim}
 use Rattle.byte_keys.specs.Entries.{Entry, entry}
-use Rattle.byte_keys.specs.declared.anchor.Anchor.{Anchor}
-use Rattle.byte_keys.specs.declared.anchor.Anchor.TheVariants.{Start}
+use Rattle.byte_keys.specs.declared.trie.Anchor.{Anchor}
+use Rattle.byte_keys.specs.declared.trie.Anchor.TheVariants.{Start}
 use Rattle.byte_keys.specs.Texts.{Texts, found}
 use Rattle.byte_keys.proofs.lemmas.Laws.{finds_exactly}
 use Rattle.glob_path.specs.Below.{BeginsWith, folder_start}

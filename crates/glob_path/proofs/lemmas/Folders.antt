@@ -19,7 +19,7 @@ use Rattle.std.proofs.lemmas.List.Sorted.{Contains-permutation, IsPermutation-ma
 use Rattle.std.proofs.lemmas.List.Kept.{Contains-dedup, Contains-from_dedup, IsStrictlySortedBy-dedup}
 use denote.Ref.{Bor}
 use Rattle.byte_keys.specs.Entries.{Entry}
-use Rattle.byte_keys.specs.declared.text.Text.{Text}
+use Rattle.byte_keys.specs.declared.trie.Text.{Text}
 use Rattle.byte_keys.specs.Texts.{entry_of}
 use Rattle.glob_path.specs.Below.{BeginsWith, folder_start}
 use Rattle.glob_path.specs.PathParts.{after_position, is_separator, last_component, last_position, with_first}

@@ -11,8 +11,8 @@ use Rattle.std.proofs.lemmas.List.Elements.{Contains-append_left, Contains-appen
 use Rattle.byte_keys.specs.Entries.{Entry, entry, indexes_under}
 use Rattle.byte_keys.proofs.lemmas.Entries.{with_index}
 use Rattle.byte_keys.proofs.lemmas.Entries.{indexes_added}
-use Rattle.byte_keys.specs.declared.anchor.Anchor.{Anchor}
-use Rattle.byte_keys.specs.declared.anchor.Anchor.TheVariants.{Start, End}
+use Rattle.byte_keys.specs.declared.trie.Anchor.{Anchor}
+use Rattle.byte_keys.specs.declared.trie.Anchor.TheVariants.{Start, End}
 use Rattle.byte_keys.specs.Texts.{prefixes, suffixes, parts, found}
 use Rattle.byte_keys.specs.Laws.{IsAt}
 use Rattle.byte_keys.proofs.lemmas.Laws.{finds_exactly}

@@ -1,7 +1,7 @@
 -- Keys in parts: the number of indexes that the tables have for a path, and the invariants of all keys.
 use Rattle.std.specs.Prelude.{◌≡◌, ◌≢◌, ℕ, ◌+◌, ◌↔◌, ◌⊎◌, Option, MatchOption, List, [], length}
 use Rattle.byte_keys.specs.Entries.{Entry, indexes_under}
-use Rattle.byte_keys.specs.declared.anchor.Anchor.TheVariants.{Start, End}
+use Rattle.byte_keys.specs.declared.trie.Anchor.TheVariants.{Start, End}
 use Rattle.byte_keys.specs.Texts.{Texts}
 use Rattle.glob_path.specs.PathParts.{last_component, component_extension}
 use Rattle.glob_path.specs.LiteralIndex.{KeyParts}

@@ -20,7 +20,7 @@ use Rattle.byte_nfa.specs.Runs.{size}
 use Rattle.glob_strategy.specs.inner.TokenStates.{IsBuilt, IsBuiltToken, AreBuilt}
 use Rattle.glob_strategy.specs.inner.Building.{Grows, Builds, BuildsToken}
 use Rattle.glob_strategy.specs.inner.Frames.{Frame, frame_of, frames_of, fresh, led, with_start, ended, targets_of, AreOpen, AreBlank, AreWithin, levels_weight, Stands, flat_weight, BuildsFlat, IsNotBlank}
-use Rattle.glob_strategy.specs.declared.groups.Frame as kept
+use Rattle.glob_strategy.specs.declared.states.Frame as kept
 use Rattle.glob_syntax.proofs.lemmas.Booleans.{or_first}
 use Rattle.glob_strategy.proofs.lemmas.Building.{agrees_old, agrees_higher, grows_then, grows_push}
 

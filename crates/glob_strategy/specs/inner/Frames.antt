@@ -11,7 +11,7 @@ use Rattle.byte_nfa.specs.Building.{Agrees}
 use Rattle.byte_nfa.specs.Runs.{size}
 use Rattle.glob_strategy.specs.inner.TokenStates.{IsBuilt, AreBuilt}
 use Rattle.glob_strategy.specs.inner.Building.{Grows, BuildsToken}
-use Rattle.glob_strategy.specs.declared.groups.Frame as held
+use Rattle.glob_strategy.specs.declared.states.Frame as held
 
 -- An open group, or the whole glob. Its current branch: where its tokens so far begin, and whether they are blank. Where the
 -- group's branches lead. Its later branches, which are done: where the kept branches begin, in the order of the text, and whether

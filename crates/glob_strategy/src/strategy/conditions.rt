@@ -1,10 +1,13 @@
 //! The conditions of the strategies on a glob's tokens.
 
 ghost use Rattle.std.specs.Prelude.{◌≡◌};
-ghost use Rattle.glob_syntax.specs.Views.{flat_of, flats};
+ghost use Rattle.glob_syntax.specs.Views.{flat_of, flats, tokens_of};
 ghost use Rattle.glob_strategy.specs.TokenTests.{is_literal_except, is_star, is_suffix};
 ghost use Rattle.glob_strategy.specs.Strategies.{matches_no_slash};
 ghost use Rattle.glob_strategy.specs.inner.FlatTests.{all_simple_pass, is_beginning, is_end, is_any_extension, is_below_folder, is_by_last_component, is_extension, is_last_component, is_last_components, is_simple_that, is_star_extension, is_star_literals, is_whole_path, literals_and_last};
+ghost use Rattle.glob_syntax.specs.TokensMatch.{is_prefix};
+ghost use Rattle.glob_syntax.specs.FlatTokens.{IsNested};
+ghost use Rattle.glob_strategy.specs.Excluded.{are_excluded, is_dot};
 
 use glob_syntax::{Options, Token};
 
@@ -193,4 +196,32 @@ fn matches_no_slash(options: Options, token: &Token) -> bool
         Token::Class(class) => !class.has(options, b'/'),
         _ => false,
     }
+}
+
+/// Returns whether every set leaves out a glob with these tokens.
+pub fn is_excluded(options: Options, tokens: &[Token]) -> bool
+    requires { IsNested (flats tokens.now) }
+    ensures { result ≡ are_excluded options (tokens_of tokens.now) }
+{
+    if options.case_insensitive {
+        return false;
+    }
+    let [first, second, third] = tokens else {
+        return false;
+    };
+    is_recursive_prefix(first) && is_dot(second) && is_dot(third)
+}
+
+/// Returns whether the token is `RecursivePrefix`.
+pub fn is_recursive_prefix(token: &Token) -> bool
+    ensures { result ≡ is_simple_that is_prefix (flat_of token.now) }
+{
+    matches!(token, Token::RecursivePrefix)
+}
+
+/// Returns whether the token is the literal `.`.
+pub fn is_dot(token: &Token) -> bool
+    ensures { result ≡ is_simple_that is_dot (flat_of token.now) }
+{
+    matches!(token, Token::Literal('.'))
 }

@@ -6,8 +6,7 @@ ghost use Rattle.glob_syntax.specs.Views.{flats};
 ghost use Rattle.glob_syntax.specs.TokenMatches.{slash};
 ghost use Rattle.glob_strategy.specs.inner.FlatTests.{EndsInExtension, ending, literal_text};
 
-use crate::excluded::is_dot;
-use crate::strategy::conditions::is_literal_except;
+use crate::strategy::conditions::{is_dot, is_literal_except};
 use glob_syntax::Token;
 use std::alloc::{AllocError, Global};
 

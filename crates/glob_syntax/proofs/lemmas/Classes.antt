@@ -6,8 +6,8 @@ use Rattle.std.proofs.lemmas.Bool.Decides.{nat_tests, eqb_tells}
 use Rattle.std.specs.List.{slice_get}
 use Rattle.std.proofs.lemmas.Option.{slice_get-get_or}
 use Rattle.std.proofs.lemmas.List.{take_more, take_all, get_or-set_same, get_or-set_other, length-set, get_or-replicate}
-use Rattle.glob_syntax.specs.declared.class.table.Membership.{Membership}
-use Rattle.glob_syntax.specs.declared.class.table.Membership.TheVariants.{Absent, OtherCase, Present}
+use Rattle.glob_syntax.specs.declared.class.Membership.{Membership}
+use Rattle.glob_syntax.specs.declared.class.Membership.TheVariants.{Absent, OtherCase, Present}
 use Rattle.glob_syntax.specs.ClassBytes.{is_one_of, is_from_last, is_spanned, range_has, ranges_have}
 use Rattle.glob_syntax.specs.inner.ClassTable.{membership, membership_in, Shows, Puts, other_case, with_other_case}
 

@@ -10,7 +10,7 @@ use Rattle.glob_syntax.specs.FlatTokens.{Flat, simple, opening, comma, closing, 
 use Rattle.glob_syntax.specs.inner.Nests.{Nests, is_inner}
 use Rattle.glob_syntax.specs.inner.TokenReading.{Follows, ReadsTo}
 use Rattle.glob_syntax.specs.inner.LexemeViews.{lexemes_of}
-use Rattle.glob_syntax.specs.declared.lexemes.lexeme.Lexeme as held
+use Rattle.glob_syntax.specs.declared.lexemes.Lexeme as held
 use Rattle.glob_syntax.proofs.lemmas.FlatTokens.{onto_append, onto_push, nests_append}
 use Rattle.glob_syntax.proofs.lemmas.FlatTokens as flat_lemmas
 use Rattle.glob_syntax.proofs.lemmas.Nesting.{nests_open, nests_comma, nests_close, nests_piece, nests_end}

@@ -1,8 +1,8 @@
 -- How memory holds the bytes of a class.
 use Rattle.std.specs.Prelude.{◌≡◌, ℕ, ◌<◌, List, Bool, ◌||◌, ◌==◌, length, Some, slice_get, slice_index_or, if◌then◌else◌}
 use Rattle.std.specs.Char.{to_ascii_lowercase, to_ascii_uppercase}
-use Rattle.glob_syntax.specs.declared.class.table.Membership.{Membership}
-use Rattle.glob_syntax.specs.declared.class.table.Membership.TheVariants.{Absent, OtherCase, Present}
+use Rattle.glob_syntax.specs.declared.class.Membership.{Membership}
+use Rattle.glob_syntax.specs.declared.class.Membership.TheVariants.{Absent, OtherCase, Present}
 use Rattle.glob_syntax.specs.ClassBytes.{ranges_have}
 
 -- how these bytes contain a byte, with and without `case_insensitive`

@@ -1,8 +1,8 @@
 -- Lexemes as contracts see them.
 use Rattle.std.specs.Prelude.{◌≡◌, ℕ, ◌++◌, List, map, None, Result, Ok, Err}
 use Rattle.std.specs.List.{position}
-use Rattle.glob_syntax.specs.declared.lexemes.lexeme.Lexeme.{Lexeme}
-use Rattle.glob_syntax.specs.declared.lexemes.lexeme.Lexeme.TheVariants as held
+use Rattle.glob_syntax.specs.declared.lexemes.Lexeme.{Lexeme}
+use Rattle.glob_syntax.specs.declared.lexemes.Lexeme.TheVariants as held
 use Rattle.glob_syntax.specs.declared.token.Token as tokens
 use Rattle.glob_syntax.specs.Token.{Token}
 use Rattle.glob_syntax.specs.Lexemes as lexemes

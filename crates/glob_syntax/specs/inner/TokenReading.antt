@@ -1,6 +1,6 @@
 -- The tokens of a glob while they are read.
 use Rattle.std.specs.Prelude.{◌≡◌, ℕ, zero, List, ◌∷◌, drop, Bool}
-use Rattle.glob_syntax.specs.declared.lexemes.lexeme.Lexeme as held
+use Rattle.glob_syntax.specs.declared.lexemes.Lexeme as held
 use Rattle.glob_syntax.specs.declared.token.Token as tokens
 use Rattle.glob_syntax.specs.Lexemes.{Lexeme}
 use Rattle.glob_syntax.specs.Reading.{levels}

@@ -7,8 +7,8 @@ use Rattle.std.specs.Option.{option_eq}
 use Rattle.std.proofs.lemmas.Bool.Decides.{Decides-and}
 use Rattle.std.proofs.lemmas.Cmp.{nat_eq_equiv, nat_list_eq_equiv}
 use Rattle.std.proofs.lemmas.Slice.Eq.{bytes_eq-Decides}
-use Rattle.glob_text.specs.declared.error.kind.ErrorKind.{ErrorKind}
-use Rattle.glob_text.specs.declared.error.kind.ErrorKind.TheVariants as kinds
+use Rattle.glob_text.specs.declared.error.ErrorKind.{ErrorKind}
+use Rattle.glob_text.specs.declared.error.ErrorKind.TheVariants as kinds
 use Rattle.glob_text.specs.declared.value_error.ValueErrorKind.{ValueErrorKind}
 use Rattle.glob_text.specs.declared.value_error.ValueErrorKind.TheVariants as causes
 use Rattle.glob_text.specs.Errors.{ErrorValue}

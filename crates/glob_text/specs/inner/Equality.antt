@@ -10,8 +10,8 @@ use Rattle.std.specs.Cmp.{IsEquivalence}
 use Rattle.std.specs.Cmp.Lexicographic.{options_equiv}
 use Rattle.std.proofs.lemmas.Cmp.{and_equiv, on_equiv, nat_eq_equiv, nat_list_eq_equiv}
 use Rattle.glob_syntax.specs.declared.options.Options.{Options}
-use Rattle.glob_text.specs.declared.error.kind.ErrorKind.{ErrorKind}
-use Rattle.glob_text.specs.declared.error.kind.ErrorKind.TheVariants as kinds
+use Rattle.glob_text.specs.declared.error.ErrorKind.{ErrorKind}
+use Rattle.glob_text.specs.declared.error.ErrorKind.TheVariants as kinds
 use Rattle.glob_text.specs.declared.value_error.ValueErrorKind.{ValueErrorKind}
 use Rattle.glob_text.specs.declared.value_error.ValueErrorKind.TheVariants as causes
 use Rattle.glob_text.specs.GlobMatches.{GlobValue}

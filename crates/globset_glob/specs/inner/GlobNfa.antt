@@ -8,8 +8,8 @@ use Rattle.glob_strategy.specs.inner.DecidedByKey.{IsDecidedBy}
 use Rattle.glob_path.specs.Key.{key_seen}
 use Rattle.glob_text.specs.GlobMatches.{GlobValue, tokens_of_glob}
 use Rattle.glob_text.specs.Cost.{cost}
-use Rattle.globset_glob.specs.declared.matcher.strategy.Strategy.{Strategy}
-use Rattle.globset_glob.specs.declared.matcher.strategy.Strategy.TheVariants.{Key, Automaton}
+use Rattle.globset_glob.specs.declared.matcher.Strategy.{Strategy}
+use Rattle.globset_glob.specs.declared.matcher.Strategy.TheVariants.{Key, Automaton}
 
 -- An automaton is for the tokens of the glob, under the index 0. At each position of a path it has at most as many reads
 -- as the glob may have visits.

@@ -6,7 +6,7 @@ ghost use Rattle.lazy_dfa.specs.inner.Sources.{half};
 ghost use Rattle.lazy_dfa.specs.inner.Rows.{AcceptsRow, AddsFound, AddsMarks, HasTold, IsDeadBy, IsSound, BeginsAt, IsAt, IsKnownStep, IsPlainStep, IsMarkedStep, max_entries};
 
 use super::{DEAD, FIRST, MARKED, REMEMBERED, Rows, Step, UNKNOWN, entry_at, next_of};
-use crate::lists::{put_found, put_marks};
+use crate::lists::{copy_within, put_found, put_marks};
 use bit_sets::{IndexSet, Visits};
 use byte_nfa::Nfa;
 
@@ -225,5 +225,29 @@ impl Rows {
             put_found(&self.lists, (end - FIRST) as usize, half, found);
         }
         true
+    }
+
+    /// Takes over the rows that another cache for the same automaton has, if there is room for all of them. It does not allocate.
+    pub fn take_over(&mut self, automaton: &Nfa, other: &Rows)
+        requires sound { IsSound automaton.now self.old }
+        requires other { IsSound automaton.now other.now }
+        ensures { IsSound automaton.now self.new }
+    {
+        let _automaton = automaton;
+        if other.class_count != self.class_count
+            || other.starts.len() > self.starts.capacity()
+            || other.lists.len() > self.lists.capacity()
+            || other.entries.len() > self.entries.capacity()
+            || other.table.len() > self.table.capacity()
+        {
+            return;
+        }
+        self.class_of = other.class_of;
+        copy_within(&mut self.starts, &other.starts);
+        copy_within(&mut self.lists, &other.lists);
+        copy_within(&mut self.entries, &other.entries);
+        copy_within(&mut self.table, &other.table);
+        self.seed = other.seed;
+        self.begin = other.begin;
     }
 }

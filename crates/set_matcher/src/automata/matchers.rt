@@ -1,6 +1,6 @@
 //! Automata for globs that match only paths whose last component has a given extension.
 
-ghost use Rattle.std.specs.Prelude.{◌≡◌, ◌+◌, ◌*◌, ◌<◌, ◌≤◌, ◌↔◌, ◌++◌, ◌∷◌, [], ℕ, List, length, IsTrue, IsOk, OnOk, IfOk, None, Some};
+ghost use Rattle.std.specs.Prelude.{◌≡◌, ◌+◌, ◌*◌, ◌<◌, ◌≤◌, ◌↔◌, ◌++◌, ◌∷◌, [], ℕ, List, length, IsTrue, IsOk, OnOk, IfOk, None, Some, OnErr};
 ghost use Rattle.byte_nfa.specs.Runs.{size, max_reads};
 ghost use Rattle.lazy_dfa.specs.Sets.{sets_capacity};
 ghost use Rattle.std.specs.Option.{option_map_or};
@@ -10,17 +10,19 @@ ghost use Rattle.glob_syntax.specs.Views.{flats, tokens_of};
 ghost use Rattle.glob_syntax.specs.inner.Weight.{weight};
 ghost use Rattle.set_matcher.specs.inner.Automata.{AddsReads, AddsTokensTo, AreFor, KeepsTokens, TellsSomeAfter, nfa_at, nfa_under, max_size, slot_of, total_reads};
 ghost use Rattle.set_matcher.specs.inner.Caches.{AreSlotCaches};
+ghost use Rattle.byte_keys.specs.Entries.{entry};
+ghost use Rattle.set_matcher.specs.inner.ExtensionSlots.{HasSlots};
 
-use super::slots::ExtensionSlots;
 use crate::caches::SlotCaches;
 use bit_sets::Visits;
-use byte_keys::Table;
+use byte_keys::{Table, TableBuilder};
 use byte_nfa::Builder;
 use glob_matching::Compiled;
 use glob_strategy::{add_tokens, new_builder};
 use glob_syntax::{Options, Token};
 use lazy_dfa::StateSets;
 use std::alloc::{AllocError, Global};
+use std::collections::BTreeMap;
 use std::marker::Model;
 
 /// An automaton for each extension that some glob requires. The slot of an extension is the position of its automaton.
@@ -343,5 +345,95 @@ fn push_finished(
 {
     let automaton = builder.finish();
     automata.push(Compiled::new(alloc, dfa_size_limit, automaton, all_states)?)?;
+    Ok(())
+}
+
+/// Extensions and their slots, in the order of their additions.
+#[derive(Drop)]
+pub struct ExtensionSlots {
+    table: TableBuilder,
+    // The same slots, for lookups before the table is built.
+    by_extension: BTreeMap<Vec<u8>, usize>,
+}
+
+impl Model for ExtensionSlots {
+    ghost use Rattle.std.specs.Prelude.{List};
+    ghost use Rattle.byte_keys.specs.Entries.{Entry};
+    ghost use Rattle.set_matcher.specs.inner.ExtensionSlots.{HasSlots};
+
+    ghost Value = { List Entry };
+
+    ghost view = { λ s. s.table };
+
+    ghost invariant = { λ s. HasSlots s.by_extension s.table };
+}
+
+impl ExtensionSlots {
+    /// Returns no slots. It allocates nothing.
+    pub fn new(alloc: Global) -> ExtensionSlots
+        ensures { result ≡ [] }
+    {
+        ExtensionSlots {
+            table: TableBuilder::new(alloc),
+            by_extension: BTreeMap::new(alloc),
+        }
+    }
+
+    /// Returns the slot of an extension, if there is any.
+    pub fn get(&self, extension: &[u8]) -> Option<usize>
+        ensures { result ≡ slot_of self.now extension.now }
+    {
+        self.by_extension.get(extension).copied()
+    }
+
+    /// Adds the slot of an extension that has none.
+    ///
+    /// Then there are no slots.
+    pub fn insert(
+        &mut self,
+        alloc: Global,
+        extension: Vec<u8>,
+        slot: usize,
+    ) -> Result<(), AllocError>
+        requires { slot_of self.old extension.items ≡ None }
+        ensures ok { OnOk result (self.new ≡ self.old ++ entry extension.items slot ∷ []) }
+        ensures err { OnErr result (self.new ≡ []) }
+    {
+        let inserted = insert(&mut self.table, &mut self.by_extension, extension, slot);
+        if let Err(error) = inserted {
+            // One of them may have the slot, so both are made anew.
+            self.table = TableBuilder::new(alloc);
+            self.by_extension = BTreeMap::new(alloc);
+            return Err(error);
+        }
+        Ok(())
+    }
+
+    /// Returns the table of the slots.
+    pub fn build(self) -> Result<Table, AllocError>
+        ensures { IfOk result (λ table. table ≡ self) }
+    {
+        let ExtensionSlots {
+            table,
+            by_extension: _,
+        } = self;
+        table.build()
+    }
+}
+
+/// Adds the slot of an extension to both. Returns an error if memory runs out.
+fn insert(
+    table: &mut TableBuilder,
+    by_extension: &mut BTreeMap<Vec<u8>, usize>,
+    extension: Vec<u8>,
+    slot: usize,
+) -> Result<(), AllocError>
+    requires none { slot_of table.old extension.items ≡ None }
+    requires has { HasSlots by_extension.old table.old }
+    ensures table { OnOk result (table.new ≡ table.old ++ entry extension.items slot ∷ []) }
+    ensures has { OnOk result (HasSlots by_extension.new table.new) }
+{
+    table.insert(&extension, slot)?;
+    by_extension.insert(extension, slot)?;
     Ok(())
 }

@@ -1,5 +1,5 @@
 use Rattle.std.proofs.Common.{◌≡◌, ◌++◌, map, take, drop}
-use Rattle.byte_keys.specs.declared.anchor.Anchor.TheVariants.{End}
+use Rattle.byte_keys.specs.declared.trie.Anchor.TheVariants.{End}
 use Rattle.byte_keys.specs.Texts.{entry_of}
 use Rattle.byte_keys.specs.inner.Anchors.{entry_from_anchor}
 use Rattle.byte_keys.proofs.trie.reverse_all.Given as goal

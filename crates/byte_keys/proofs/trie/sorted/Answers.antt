@@ -3,7 +3,7 @@ use Rattle.std.proofs.lemmas.List.{length-map}
 use Rattle.byte_keys.proofs.lemmas.Ranges.{taken}
 use Rattle.std.proofs.lemmas.List.Sorted.{answers_always}
 use Rattle.byte_keys.specs.Entries.{indexes_under}
-use Rattle.byte_keys.specs.declared.anchor.Anchor.TheVariants.{End}
+use Rattle.byte_keys.specs.declared.trie.Anchor.TheVariants.{End}
 use Rattle.byte_keys.specs.Texts.{entry_of}
 use Rattle.byte_keys.specs.inner.Anchors.{entry_from_anchor}
 use Rattle.byte_keys.proofs.lemmas.Anchors.{under_as_is}

@@ -1,5 +1,5 @@
 use Rattle.std.proofs.Common.{◌≡◌, ◌++◌, map, take}
-use Rattle.byte_keys.specs.declared.text.Text.{Text}
+use Rattle.byte_keys.specs.declared.trie.Text.{Text}
 use Rattle.glob_path.specs.inner.Folders.{shown_of, start_of}
 use Rattle.glob_path.proofs.folders.push_starts.Given as goal
 

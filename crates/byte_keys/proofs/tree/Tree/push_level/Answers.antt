@@ -1,6 +1,6 @@
 use Rattle.std.proofs.Common.{◌+◌, ◌++◌, map, drop, get_or, sym, subst, append-nil, arith}
 use Rattle.std.proofs.lemmas.List.{drop_all}
-use Rattle.byte_keys.specs.declared.tree.build.Span.{Span}
+use Rattle.byte_keys.specs.declared.tree.Span.{Span}
 use Rattle.byte_keys.specs.inner.Building.{rests_of, IsSpan, AreSpans, Stands}
 use Rattle.byte_keys.proofs.lemmas.Ranges.{all_append}
 use Rattle.byte_keys.proofs.lemmas.Spans.{drop_at}

@@ -1,6 +1,6 @@
 use Rattle.std.proofs.Common.{◌++◌, map, ap, sym, subst, ◌∙◌}
 use Rattle.std.proofs.lemmas.List.Filters.{dedup_is}
-use Rattle.byte_keys.specs.declared.text.Text.{Text}
+use Rattle.byte_keys.specs.declared.trie.Text.{Text}
 use Rattle.glob_path.specs.inner.Folders.{AreRising, shown_of, start_of}
 use Rattle.glob_path.proofs.lemmas.Folders.{folders_tell, kept_rising, same_shown}
 use Rattle.glob_path.proofs.folders.Folders.new.Goals as goal

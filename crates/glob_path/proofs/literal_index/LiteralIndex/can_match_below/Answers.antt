@@ -1,6 +1,6 @@
 use Rattle.std.proofs.Common.{IsTrue, refl, subst}
 use Rattle.std.specs.Prelude.{◌↔◌}
-use Rattle.byte_keys.specs.declared.anchor.Anchor.TheVariants.{Start}
+use Rattle.byte_keys.specs.declared.trie.Anchor.TheVariants.{Start}
 use Rattle.glob_path.specs.KeysBelow.{MatchesBelow}
 use Rattle.glob_path.specs.LiteralIndex.{KeyParts}
 use Rattle.glob_path.specs.inner.Parts.{HasFolders}

@@ -3,8 +3,8 @@ use Rattle.bit_sets.specs.Indexes.{HasAlso}
 use Rattle.bit_sets.proofs.lemmas.IndexSets.{also_then}
 use Rattle.byte_keys.specs.Entries.{indexes_under}
 use Rattle.byte_keys.specs.Texts.{Texts, found}
-use Rattle.byte_keys.specs.declared.anchor.Anchor.{Anchor}
-use Rattle.byte_keys.specs.declared.anchor.Anchor.TheVariants.{Start, End}
+use Rattle.byte_keys.specs.declared.trie.Anchor.{Anchor}
+use Rattle.byte_keys.specs.declared.trie.Anchor.TheVariants.{Start, End}
 use Rattle.glob_path.specs.PathParts.{last_component, component_extension}
 use Rattle.glob_path.specs.LiteralIndex.{KeyParts, texts_at}
 use Rattle.glob_path.proofs.literal_index.LiteralIndex.find.Goals as goal

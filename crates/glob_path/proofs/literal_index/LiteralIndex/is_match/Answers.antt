@@ -3,7 +3,7 @@ use Rattle.std.specs.Prelude.{◌==◌, ◌++◌}
 use Rattle.std.proofs.lemmas.List.{length-append}
 use Rattle.byte_keys.specs.Entries.{indexes_under}
 use Rattle.byte_keys.specs.Texts.{found}
-use Rattle.byte_keys.specs.declared.anchor.Anchor.TheVariants.{Start, End}
+use Rattle.byte_keys.specs.declared.trie.Anchor.TheVariants.{Start, End}
 use Rattle.glob_path.specs.PathParts.{last_component, component_extension}
 use Rattle.glob_path.specs.LiteralIndex.{texts_at}
 use Rattle.glob_path.proofs.literal_index.LiteralIndex.is_match.Goals as goal
