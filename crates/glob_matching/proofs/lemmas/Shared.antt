@@ -6,7 +6,7 @@ use Rattle.lazy_dfa.proofs.lemmas.Shared.{cache-send, cache-sync}
 use Rattle.glob_matching.proofs.lemmas.Pools.{pool-send, pool-sync}
 use Rattle.glob_matching.specs.contracts.compiled.Compiled as Compiled
 use Rattle.glob_matching.specs.contracts.kept.KeptCaches as KeptCaches
-use Rattle.glob_matching.specs.contracts.published.Published as Published
+use Rattle.glob_matching.specs.contracts.kept.Published as Published
 use Rattle.glob_matching.specs.contracts.rows.RowSource as RowSource
 
 published-send : IsSend Published.the_field.row

@@ -6,7 +6,7 @@ use Rattle.globset_glob.specs.contracts.matcher.GlobMatcher as GlobMatcher
 use Rattle.glob_matching.proofs.lemmas.Shared.{compiled-send, compiled-sync}
 use Rattle.lazy_dfa.proofs.lemmas.Shared.{cache-send, cache-sync}
 use Rattle.set_matcher.proofs.lemmas.Shared.{matcher-send, matcher-sync}
-use Rattle.globset_glob.specs.contracts.matcher.searcher.MatcherSearcher as MatcherSearcher
+use Rattle.globset_glob.specs.contracts.matcher.MatcherSearcher as MatcherSearcher
 use Rattle.globset.specs.contracts.set.GlobSet as GlobSet
 use Rattle.globset.specs.contracts.searcher.Searcher as Searcher
 
