@@ -5,7 +5,7 @@ ghost use Rattle.bit_sets.specs.Indexes.{index_capacity};
 ghost use Rattle.bit_sets.specs.Numbers.{has_number, AreBelow};
 ghost use Rattle.bit_sets.specs.StateSets.{has_state, state_capacity};
 ghost use Rattle.byte_nfa.specs.Runs.{size, AcceptsFrom};
-ghost use Rattle.byte_nfa.specs.Steps.{state, IsReached};
+ghost use Rattle.byte_nfa.specs.Steps.{state};
 ghost use Rattle.byte_nfa.specs.inner.Pass.{goes_now, goes_next};
 ghost use Rattle.byte_nfa.specs.inner.Views.{GoesBelow};
 ghost use Rattle.glob_relations.specs.inner.Rows.{AcceptsIn, AreStates, IsWantedBy};
@@ -13,7 +13,6 @@ ghost use Rattle.glob_relations.specs.inner.Rows.{AcceptsIn, AreStates, IsWanted
 use bit_sets::{IndexSet, StateSet, Visits};
 use byte_nfa::Nfa;
 use std::alloc::{AllocError, Global};
-use std::mem::swap;
 
 /// Puts the states that a byte leads to from the states of a list into a set. The sets' old contents have no effect.
 pub fn step(automaton: &Nfa, states: &[usize], byte: u8, from: &mut StateSet, to: &mut StateSet)
@@ -86,27 +85,6 @@ fn take(automaton: &Nfa, s: usize, byte: u8, from: &mut StateSet, to: &mut State
     if let Some(next) = automaton.next_by(s, byte) {
         to.put(next);
     }
-}
-
-/// Returns whether a path leads from the start to an end of an index.
-pub fn is_reached(
-    alloc: Global,
-    automaton: &Nfa,
-    path: &[u8],
-    index: usize,
-) -> Result<bool, AllocError>
-    ensures { IfOk result (λ is. IsTrue is ↔ IsReached automaton.now path.now index) }
-{
-    let mut from = StateSet::new(alloc, automaton.state_count())?;
-    let mut to = StateSet::new(alloc, automaton.state_count())?;
-    automaton.start(&mut from);
-    for byte in path {
-        step_set(automaton, *byte, &mut from, &mut to);
-        swap(&mut from, &mut to);
-    }
-    let mut ends = IndexSet::new(alloc, automaton.index_count())?;
-    automaton.ends(&mut from, &mut ends);
-    Ok(ends.has(index))
 }
 
 /// Returns whether the states of a list lead to the ends of all indexes below a number without a byte, and to none of that

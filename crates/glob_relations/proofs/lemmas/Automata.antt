@@ -11,11 +11,10 @@ use Rattle.glob_syntax.specs.Token.{Tokens}
 use Rattle.glob_strategy.specs.IndexedTokens.{IndexedTokens, indexed, SomeMatches, IsFor}
 use Rattle.glob_text.specs.GlobMatches.{GlobValue, tokens_of_glob, glob_matches}
 use Rattle.glob_relations.specs.Answers.{some_match, IsMissed, IsShared, TellsCovering, TellsOverlap}
-use Rattle.glob_relations.specs.Domains.{IsIn}
 use Rattle.glob_relations.specs.declared.domain.Domain.{Domain}
 use Rattle.glob_relations.specs.inner.Automata.{indexed_glob, indexed_globs}
 use Rattle.glob_relations.specs.Shortest.{IsShortest}
-use Rattle.glob_relations.specs.inner.Rows.{WantsFrom, IsWantedText, TellsSearch}
+use Rattle.glob_relations.specs.inner.Rows.{IsWantedText, TellsSearch}
 use Rattle.glob_relations.specs.inner.Told.{coverage_of, intersection_of}
 use Rattle.glob_relations.specs.declared.search.Answer.{Answer}
 use Rattle.glob_relations.specs.declared.search.Answer.TheVariants.{Found, Nothing, Limit}
@@ -95,13 +94,6 @@ module _ (m : NfaValue) (g : GlobValue) (by : List GlobValue) (domain : Domain) 
     λ reach. ⊎_elim {C = IsTrue (some_match by path)} (λ (e, h). absurd (omega arith)) (λ other. (some_back 1 by path 1 other).1)
         (one_back 0 g (indexed_globs 1 by) path 1 ((reached m (indexed_glob 0 g ∷ indexed_globs 1 by) is path 1 bytes).0 reach)),
     λ h. (reached m (indexed_glob 0 g ∷ indexed_globs 1 by) is path 1 bytes).1 (inr (some_there 1 by path h)),
-  )
-
-  -- a shortest path that the glob matches, and none of the others
-  pub shortest_alone : (path : List ℕ) → IsShortest (IsMissed g [] domain) path → (IsReached m path 1 → ⊥) → IsShortest (IsMissed g by domain) path
-  shortest_alone path ((inside, matched, off), least) none = (
-    (inside, matched, is_false (some_match by path) (λ h. none ((others_reached path ((is_in domain path).0 inside).0).1 h))),
-    λ other (inside', matched', off'). least other (inside', matched', refl),
   )
 
   pub told_covering : (limit : ℕ) (answer : Answer) → TellsSearch m 1 domain limit answer → TellsCovering g by domain limit (coverage_of answer)

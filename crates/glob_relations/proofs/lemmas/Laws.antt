@@ -1,6 +1,6 @@
 -- Laws of globs that cover a glob, and of globs that are disjoint.
 use Rattle.std.proofs.Common.{◌≡◌, ℕ, zero, suc, ◌<◌, ◌⊎◌, inl, inr, Bool, true, false, cond, true≢false, List, [], ◌∷◌, ◌++◌, length, IsTrue, refl, ap, sym, subst, ◌∙◌, arith}
-use Rattle.std.specs.Prelude.{◌↔◌, ◌&&◌, not, Contains, filter, IsFalse, Option, Some, None, slice_get, slice_index_or}
+use Rattle.std.specs.Prelude.{◌&&◌, not, Contains, IsFalse, Option, Some, None, slice_get}
 use Rattle.std.specs.Option.{option_map_or}
 use Rattle.std.proofs.lemmas.Bool.{or_cases}
 use Rattle.std.proofs.lemmas.List.Elements.{Contains-append_left, Contains-append_right, Contains-append_cases}
@@ -12,10 +12,8 @@ use Rattle.set_matcher.specs.Answer.{matching_indexes}
 use Rattle.set_matcher.specs.Excluded.{excluded, is_reported}
 use Rattle.set_matcher.specs.Indexes.{passes_at}
 use Rattle.set_matcher.proofs.lemmas.Indexes.{passing_is_contained, contained_passes}
-use Rattle.glob_relations.specs.Answers.{some_match, IsCovered, AreDisjoint}
-use Rattle.glob_relations.specs.Domains.{IsIn}
+use Rattle.glob_relations.specs.Answers.{some_match}
 use Rattle.glob_relations.specs.Laws.{CoversItself, CoversWithMore, DisjointShareNone, CoveredIsNotNeeded, included}
-use Rattle.glob_relations.specs.declared.domain.Domain.{Domain}
 
 -- some glob of the list matches the path
 abbrev Matches : List GlobValue → List ℕ → Type 0

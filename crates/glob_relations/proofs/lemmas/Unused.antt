@@ -1,6 +1,6 @@
 -- Globs at indexes, and which of them are needed.
-use Rattle.std.proofs.Common.{◌≡◌, ◌≢◌, ℕ, zero, suc, ◌+◌, ◌-◌, ◌<◌, ◌≤◌, ◌⊎◌, inl, inr, true≢false, List, [], ◌∷◌, ◌++◌, length, get_or, take, drop, IsTrue, refl, ap, sym, subst, ◌∙◌, arith}
-use Rattle.std.specs.Prelude.{◌↔◌, IfOk, IsFalse, Contains, Result, Ok, Err, Option, Some, None, slice_get, slice_index, slice_index_or}
+use Rattle.std.proofs.Common.{◌≡◌, ◌≢◌, Bool, true, false, ℕ, zero, suc, ◌+◌, ◌-◌, ◌<◌, ◌≤◌, ◌⊎◌, inl, inr, true≢false, List, [], ◌∷◌, ◌++◌, length, take, drop, IsTrue, refl, ap, sym, subst, ◌∙◌, arith}
+use Rattle.std.specs.Prelude.{IfOk, IsFalse, Contains, Result, Ok, Err, Option, Some, None, slice_get, slice_index, slice_index_or}
 use Rattle.std.specs.List.{range_with_len}
 use Rattle.std.proofs.lemmas.Bool.{cases_lt, or_cases}
 use Rattle.std.proofs.lemmas.List.Elements.{Contains-append_left, Contains-append_right, Contains-append_cases}
@@ -8,6 +8,7 @@ use Rattle.std.proofs.Math.Logic.{⊎_elim}
 use Rattle.byte_nfa.proofs.lemmas.Pass.{or_first, or_second}
 use Rattle.glob_text.specs.GlobMatches.{GlobValue, glob_matches}
 use Rattle.glob_relations.specs.Answers.{some_match, IsCovered, IsMissed}
+use Rattle.glob_relations.specs.Shortest.{IsShortest}
 use Rattle.glob_relations.specs.Unused.{with_glob, globs_at, rivals, IsLeastCover, TellsReachability}
 use Rattle.glob_relations.specs.declared.domain.Domain.{Domain}
 use Rattle.glob_relations.specs.declared.unused.Decides.{Decides}
@@ -86,6 +87,43 @@ pub contains_one : (k j : ℕ) → Contains (k ∷ []) j → k ≡ j
 contains_one k j (zero, lt, is) = is
 contains_one k j (suc i, lt, is) = absurd (omega arith)
 
+-- a glob that does not match a path which another matches does not cover it alone
+pub not_alone : (gs : List GlobValue) (g : GlobValue) (domain : Domain) (path : List ℕ) (k : ℕ) → ((h : GlobValue) → slice_get gs k ≡ Some h → IsTrue (glob_matches h path) → ⊥) → IsMissed g [] domain path
+    → IsCovered g (globs_at gs (k ∷ [])) domain → ⊥
+not_alone gs g domain path k off (inside, matched, none) covered =
+    let (j, at, (h, is, matches)) = some_at_back gs path (k ∷ []) (covered path inside matched) in
+    off h (ap (slice_get gs) (contains_one k j at) ∙ is) matches
+
+is_false : (b : Bool) → (IsTrue b → ⊥) → IsFalse b
+is_false true h = absurd (h refl)
+is_false false h = refl
+
+-- a path that no glob at an index matches
+pub none_match : (gs : List GlobValue) (path ks : List ℕ) → ((k : ℕ) → Contains ks k → (g : GlobValue) → slice_get gs k ≡ Some g → IsTrue (glob_matches g path) → ⊥) → IsFalse (some_match (globs_at gs ks) path)
+none_match gs path ks off = is_false (some_match (globs_at gs ks) path)
+    (λ h. let (k, at, (g, is, matches)) = some_at_back gs path ks h in off k at g is matches)
+
+-- a path that is missed by the globs at some of the indexes, and by those at the rest, is missed by all; and it is as short
+pub shortest_missed : (gs : List GlobValue) (g : GlobValue) (domain : Domain) (by rest others path : List ℕ) → ((k : ℕ) → Contains by k → Contains others k) → ((k : ℕ) → Contains others k → Contains by k ⊎ Contains rest k)
+    → IsShortest (IsMissed g (globs_at gs by) domain) path → IsFalse (some_match (globs_at gs rest) path) → IsShortest (IsMissed g (globs_at gs others) domain) path
+shortest_missed gs g domain by rest others path within all ((inside, matched, off), least) none = (
+  (
+    inside,
+    matched,
+    none_match gs path others
+        (λ k at h is matches. ⊎_elim {C = ⊥}
+        (λ early. true≢false (sym (some_at_there gs path by k h early is matches) ∙ off))
+        (λ late. true≢false (sym (some_at_there gs path rest k h late is matches) ∙ none))
+        (all k at)),
+  ),
+  λ other (inside', matched', off'). least other (
+    inside',
+    matched',
+    none_match gs other by
+        (λ k at h is matches. true≢false (sym (some_at_there gs other others k h (within k at) is matches) ∙ off')),
+  ),
+)
+
 -- one glob is needed
 pub least_one : (gs : List GlobValue) (g : GlobValue) (others : List ℕ) (domain : Domain) (k : ℕ) → Contains others k → (IsCovered g [] domain → ⊥) → IsCovered g (globs_at gs (k ∷ [])) domain
     → IsLeastCover gs g others domain (k ∷ [])
@@ -127,6 +165,50 @@ rest_contains (y ∷ set) (suc i) x lt (suc j, small, is) other =
     let (n, less, same) = rest_contains set i x (omega arith) (j, omega arith, is) other in
     (suc n, omega arith, same)
 
+-- an index is the one that is left out, or still there
+pub left_or_kept : (set : List ℕ) (i x : ℕ) → i < length set → Contains set x → (slice_index set i ≡ x) ⊎ Contains (rest_of set i) x
+left_or_kept [] i x lt at = absurd (omega arith)
+left_or_kept (y ∷ set) zero x lt (zero, small, is) = inl is
+left_or_kept (y ∷ set) zero x lt (suc j, small, is) = inr (j, omega arith, is)
+left_or_kept (y ∷ set) (suc i) x lt (zero, small, is) = inr (0, omega arith, is)
+left_or_kept (y ∷ set) (suc i) x lt (suc j, small, is) = ⊎_elim {C = (slice_index set i ≡ x) ⊎ Contains (y ∷ rest_of set i) x}
+    inl
+    (λ (n, less, same). inr (suc n, omega arith, same))
+    (left_or_kept set i x (omega arith) (j, omega arith, is))
+
+-- what is known while rivals are put together: the rivals so far, and the rest
+pub record IsSplit (others by rest : List ℕ) : Type 0 where
+  pub early : (k : ℕ) → Contains by k → Contains others k
+  pub late : (k : ℕ) → Contains rest k → Contains others k
+  pub all : (k : ℕ) → Contains others k → Contains by k ⊎ Contains rest k
+
+pub split_first : (others : List ℕ) → IsSplit others [] others
+split_first others = record {
+  early = λ k at. absurd (contains_none k at);
+  late = λ k at. at;
+  all = λ k at. inr at;
+}
+
+pub split_next : (others by rest : List ℕ) (i : ℕ) → i < length rest → IsSplit others by rest → IsSplit others (by ++ slice_index rest i ∷ []) (rest_of rest i)
+split_next others by rest i lt is = record {
+  early = λ k at. ⊎_elim {C = Contains others k} (is.early k)
+      (λ new. subst (Contains others) (contains_one (slice_index rest i) k new) (is.late (slice_index rest i) (contains_index rest i lt)))
+      (Contains-append_cases by (slice_index rest i ∷ []) k at);
+  late = λ k at. is.late k (contains_rest rest i k at);
+  all = λ k at. ⊎_elim {C = Contains (by ++ slice_index rest i ∷ []) k ⊎ Contains (rest_of rest i) k}
+      (λ old. inl (Contains-append_left by (slice_index rest i ∷ []) k old))
+      (λ later. ⊎_elim {C = Contains (by ++ slice_index rest i ∷ []) k ⊎ Contains (rest_of rest i) k}
+      (λ same. inl (Contains-append_right by (slice_index rest i ∷ []) k (0, omega arith, same)))
+      (λ kept. inr kept)
+      (left_or_kept rest i k lt later))
+      (is.all k at);
+}
+
+pub split_taken : (others by rest more fewer : List ℕ) (i x : ℕ) → i < length rest → more ≡ by ++ x ∷ [] → x ≡ slice_index_or rest i x → fewer ≡ rest_of rest i → IsSplit others by rest → IsSplit others more fewer
+split_taken others by rest more fewer i x lt is same left split =
+    subst (λ (xs : List ℕ). IsSplit others xs fewer) (sym (is ∙ ap (λ (y : ℕ). by ++ y ∷ []) (same ∙ sym (at_any rest i x lt))))
+    (subst (λ (ys : List ℕ). IsSplit others (by ++ slice_index rest i ∷ []) ys) (sym left) (split_next others by rest i lt split))
+
 rest_before : (set : List ℕ) (i j : ℕ) → i < length set → j < i → slice_index (rest_of set i) j ≡ slice_index set j
 rest_before [] i j lt less = absurd (omega arith)
 rest_before (y ∷ set) zero j lt less = absurd (omega arith)
@@ -148,9 +230,9 @@ pub record IsCoverTo (gs : List GlobValue) (g : GlobValue) (others : List ℕ) (
   pub covers : IsCovered g (globs_at gs set) domain
   pub needed : (j : ℕ) → j < i → IsNeeded gs g domain set (slice_index set j)
 
-pub cover_first : (gs : List GlobValue) (g : GlobValue) (others : List ℕ) (domain : Domain) → IsCovered g (globs_at gs others) domain → IsCoverTo gs g others domain others 0
-cover_first gs g others domain covered = record {
-  within = λ k at. at;
+pub cover_first : (gs : List GlobValue) (g : GlobValue) (others by : List ℕ) (domain : Domain) → ((k : ℕ) → Contains by k → Contains others k) → IsCovered g (globs_at gs by) domain → IsCoverTo gs g others domain by 0
+cover_first gs g others by domain within covered = record {
+  within = within;
   covers = covered;
   needed = λ j less. absurd (omega arith);
 }

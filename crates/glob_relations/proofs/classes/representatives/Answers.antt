@@ -1,6 +1,6 @@
-use Rattle.std.proofs.Common.{List, true≢false, sym, subst, ◌∙◌, arith}
+use Rattle.std.proofs.Common.{true≢false, sym, subst, ◌∙◌, arith}
 use Rattle.glob_relations.specs.inner.Rows.{AreRepresentatives}
-use Rattle.glob_relations.proofs.lemmas.Classes.{AreFound, found_all, found_first, found_past, found_rest}
+use Rattle.glob_relations.proofs.lemmas.Classes.{found_all, found_first, found_past, found_rest}
 use Rattle.glob_relations.proofs.classes.representatives.Goals as goal
 use Rattle.glob_relations.proofs.classes.representatives.Goals.{then-begins_class+then-is_preferred+in_ok-push, then-begins_class+else-is_preferred+in_ok-push-2, else-begins_class}
 

@@ -1,7 +1,5 @@
-use Rattle.std.proofs.Common.{ℕ, ◌<◌, length, ap, sym, subst, ◌∙◌, arith}
-use Rattle.byte_nfa.specs.Steps.{state}
-use Rattle.glob_relations.specs.inner.Leading.{LeadsOn}
-use Rattle.glob_relations.proofs.lemmas.Leading.{AreLeadingTo, leading_more, leading_all}
+use Rattle.std.proofs.Common.{length, ap, arith}
+use Rattle.glob_relations.proofs.lemmas.Leading.{leading_more, leading_all}
 use Rattle.glob_relations.proofs.leading.leading.Goals as goal
 
 pub loop-s-init : goal.loop-s-init

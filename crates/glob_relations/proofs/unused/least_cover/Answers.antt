@@ -1,8 +1,8 @@
-use Rattle.std.proofs.Common.{◌≡◌, ℕ, List, ◌++◌, sym, ap, subst, ◌∙◌, arith}
+use Rattle.std.proofs.Common.{ℕ, List, ◌++◌, sym, ap, subst, ◌∙◌, arith}
 use Rattle.std.specs.Prelude.{Contains}
 use Rattle.glob_relations.specs.Answers.{IsCovered}
 use Rattle.glob_relations.specs.Unused.{globs_at}
-use Rattle.glob_relations.proofs.lemmas.Unused.{IsCoverTo, rest_of, rest_is, contains_rest, length_rest, cover_first, cover_fewer, cover_kept, cover_least, missed_uncovered}
+use Rattle.glob_relations.proofs.lemmas.Unused.{IsCoverTo, rest_is, contains_rest, length_rest, cover_first, cover_fewer, cover_kept, cover_least, missed_uncovered}
 use Rattle.glob_relations.proofs.unused.least_cover.Goals as goal
 
 pub covering_at-requires : goal.covering_at-requires
@@ -13,11 +13,11 @@ covering_at-requires c = λ k at.
 
 pub loop-i-init : goal.loop-i-init
 loop-i-init c =
-    let items = c.in_ok-extend_from_slice.ensures.items ∙ ap (λ (xs : List ℕ). xs ++ c.args.others.now) c.new-set.ensures.items in
+    let items = c.in_ok-extend_from_slice.ensures.items ∙ ap (λ (xs : List ℕ). xs ++ c.args.by.now) c.new-set.ensures.items in
     record {
       within = omega arith;
       cover = subst (λ (xs : List ℕ). IsCoverTo c.args.globs.now c.args.glob.now c.args.others.now c.args.domain xs 0) (sym items)
-          (cover_first c.args.globs.now c.args.glob.now c.args.others.now c.args.domain c.requires.covered);
+          (cover_first c.args.globs.now c.args.glob.now c.args.others.now c.args.by.now c.args.domain c.requires.by c.requires.covered);
     }
 
 pub loop-i-preserved-in-Covered : goal.loop-i-preserved-in-Covered

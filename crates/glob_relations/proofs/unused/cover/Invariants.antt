@@ -2,7 +2,7 @@ use Rattle.std.proofs.Common.{ℕ, ◌<◌, [], ◌∷◌}
 use Rattle.std.specs.Prelude.{slice_index}
 use Rattle.glob_relations.specs.Answers.{IsCovered}
 use Rattle.glob_relations.specs.Unused.{globs_at}
-use Rattle.glob_relations.proofs.unused.cover_of_some.Given as goal
+use Rattle.glob_relations.proofs.unused.cover.Given as goal
 
 abbrev pub invariant-loop-k : goal.invariant-loop-k
 invariant-loop-k l = (j : ℕ) → j < l.k-index → IsCovered l.glob (globs_at l.globs (slice_index l.others j ∷ [])) l.domain → ⊥
