@@ -43,9 +43,10 @@ fn folder() -> PathBuf {
     }
 }
 
-/// Ends the build if there is a header beside the library and it is of another interface.
+/// Ends the build if the header beside the library is of another interface, and warns if there is none.
 fn check_interface(header: &Path) {
     let Ok(text) = fs::read_to_string(header) else {
+        println!("cargo:warning={} is not there, so it is not known whether the library fits", header.display());
         return;
     };
     let number = text.lines().find_map(|line| line.strip_prefix("#define GLOBSET_INTERFACE ")).map(str::trim);

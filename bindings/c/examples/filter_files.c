@@ -70,7 +70,7 @@ int main(int argc, char **argv) {
     }
     for (size_t i = 0; i < THREADS; i++) pthread_join(threads[i], NULL);
     for (size_t i = 0; i < count; i++) {
-        if (lines[i].answer == 1 && ++matched) printf("%s\n", lines[i].text);
+        if (lines[i].answer == 1 && ++matched && printf("%s\n", lines[i].text) < 0) fail("the output", strerror(errno));
         free(lines[i].text);
     }
     free(lines);

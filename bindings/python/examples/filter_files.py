@@ -17,9 +17,13 @@ from globset import GlobError, GlobSet
 BATCH = 5_000
 
 
+def stop(error):
+    raise error
+
+
 def paths_below(top):
-    """Yields the paths of the files below a folder, relative to it."""
-    for at, folders, names in os.walk(top):
+    """Yields the paths of the files below a folder, relative to it. Raises the error of a folder that cannot be read."""
+    for at, folders, names in os.walk(top, onerror=stop):
         folders.sort()
         start = os.path.relpath(at, top)
         yield from sorted(names if start == "." else (os.path.join(start, name) for name in names))
@@ -46,23 +50,29 @@ def matching(paths):
     return kept.filter(paths)
 
 
+def print_matching(globs, top):
+    """Prints the paths of the files below a folder that some glob matches. Returns whether there are any."""
+    found = False
+    # A new process for each worker: this one may have threads, and then its copy by `fork` may not match.
+    with multiprocessing.get_context("spawn").Pool(initializer=begin, initargs=[globs]) as pool:
+        for paths in pool.imap(matching, batches(paths_below(top))):
+            for path in paths:
+                sys.stdout.buffer.write(os.fsencode(path) + b"\n")
+                found = True
+    return found
+
+
 def main():
     if len(sys.argv) < 3:
         print(__doc__, file=sys.stderr)
         return 2
     try:
-        globs = GlobSet(sys.argv[2:])
+        return 0 if print_matching(GlobSet(sys.argv[2:]), sys.argv[1]) else 1
     except GlobError as error:
         print(f"filter_files.py: glob {error.index + 1}: {error}", file=sys.stderr)
-        return 2
-    found = False
-    # A new process for each worker: this one may have threads, and then its copy by `fork` may not match.
-    with multiprocessing.get_context("spawn").Pool(initializer=begin, initargs=[globs]) as pool:
-        for paths in pool.imap(matching, batches(paths_below(sys.argv[1]))):
-            for path in paths:
-                sys.stdout.buffer.write(os.fsencode(path) + b"\n")
-                found = True
-    return 0 if found else 1
+    except OSError as error:
+        print(f"filter_files.py: {error}", file=sys.stderr)
+    return 2
 
 
 if __name__ == "__main__":

@@ -54,7 +54,7 @@ class GlobBase:
         return _library.text_of(_library.glob_regex, ctypes.byref(Lent(self._glob.at)))
 
     def match(self, path: Path, /) -> bool:
-        """Returns whether the glob matches the path.
+        """Returns whether the glob matches the whole path, as `fullmatch` of the module `re` does.
 
         >>> Glob("src/**/*.py").match("src/a/b.py")
         True

@@ -41,7 +41,10 @@ impl Rules {
 
 /// Prints what is below a folder, and returns how many paths. The rules are those of the folders above it, each with its folder.
 fn walk(top: &Path, at: &Path, wanted: &GlobSet, rules: &mut Vec<(PathBuf, Rules)>) -> Result<usize, Box<dyn Error>> {
-    let text = fs::read_to_string(at.join(".ignore")).unwrap_or_default();
+    let text = match fs::read_to_string(at.join(".ignore")) {
+        Err(error) if error.kind() == io::ErrorKind::NotFound => String::new(),
+        read => read?,
+    };
     rules.push((at.to_path_buf(), Rules::read(&text)?));
     let mut entries = fs::read_dir(at)?.collect::<io::Result<Vec<_>>>()?;
     entries.sort_by_key(|entry| entry.file_name());
