@@ -23,8 +23,8 @@ pub const COMMAND: Command = Command {
 Each line of FILE is a pattern and its owners, as a CODEOWNERS has them; the last rule that matches a path decides about it.
 For each rule that never decides, its line, its pattern and the lines that cover it are written to standard output.
 With --overlaps it is each pair of rules that match a path in common, with a shortest such path.
-The question is about relative paths without empty components, . and .. in them. Where an answer takes more than 10,000 sets of states,
-the line says that it is unknown.
+Paths are relative, and no component is empty, . or .. in them. A line says unknown where an answer takes more than 10,000 sets of
+states.
 The exit status is 0 if nothing was written, 1 if a line was, and 2 after an error. For each pattern that is wrong, the line is
 written to standard error with a mark under the place.",
 };

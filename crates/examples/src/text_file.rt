@@ -76,8 +76,8 @@ impl TextFile {
             .unwrap_or(Fault::OutOfMemory)
     }
 
-    /// Returns the error of a line, with a mark under the byte at a place of it. If there is no memory for that, returns the error
-    /// that memory ran out.
+    /// Returns the error of a line, with a mark under the byte at a place. If there is no memory for that, returns the error that
+    /// memory ran out.
     pub fn marked_fault(
         &self,
         alloc: Global,

@@ -6,7 +6,8 @@ use glob_relations::{Domain, Intersection, overlap};
 use globset::Error;
 use std::alloc::Global;
 
-/// Returns a shortest path that both of two rules match, or that there is none, or that the limit was reached before one was found.
+/// Returns a shortest path that both of two rules match, or that there is none, or that the limit was reached before one was
+/// found.
 pub fn common(
     alloc: Global,
     rules: &Rules<'_>,
