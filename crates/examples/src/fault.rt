@@ -22,6 +22,14 @@ pub enum Fault {
         text: Vec<u8>,
         reason: String,
     },
+    /// A line of a file has a pattern that cannot be read: the line, the number of its bytes before the place, and the reason.
+    Marked {
+        file: String,
+        number: usize,
+        text: Vec<u8>,
+        place: usize,
+        reason: String,
+    },
     /// A glob of the command line is none, or memory ran out for globs.
     Glob(globset::Error),
     /// Standard input cannot be read.
@@ -57,6 +65,13 @@ impl Drop for Fault {
                 text: _,
                 reason: _,
             } => {}
+            Fault::Marked {
+                file: _,
+                number: _,
+                text: _,
+                place: _,
+                reason: _,
+            } => {}
         }
     }
 }
@@ -73,6 +88,16 @@ impl fmt::Display for Fault {
                 text,
                 reason,
             } => write_line_error(f, file.as_str(), *number, text.as_slice(), reason.as_str()),
+            Fault::Marked {
+                file,
+                number,
+                text,
+                place,
+                reason,
+            } => {
+                write_reason(f, file.as_str(), *number, reason.as_str())?;
+                write_mark(f, text.as_slice(), *place)
+            }
             Fault::Glob(error) => error.fmt(f),
             Fault::Input(error) => write_error(f, "standard input", error),
             Fault::Output(error) => write_error(f, "standard output", error),
@@ -100,6 +125,41 @@ fn write_line_error<W: fmt::Write>(
 ) -> fmt::Result {
     write!(f, "{}: line {number}: ", Shown(file.as_bytes()))?;
     write!(f, "{}: {}", Shown(text), Shown(reason.as_bytes()))
+}
+
+/// Writes the place of a line, and the reason.
+fn write_reason<W: fmt::Write>(
+    f: &mut fmt::Formatter<W>,
+    file: &str,
+    number: usize,
+    reason: &str,
+) -> fmt::Result {
+    let reason = Shown(reason.as_bytes());
+    write!(f, "{}: line {number}: {reason}", Shown(file.as_bytes()))
+}
+
+/// Writes a line as it is shown, and below it a mark under the byte at a place.
+fn write_mark<W: fmt::Write>(f: &mut fmt::Formatter<W>, text: &[u8], place: usize) -> fmt::Result {
+    write!(f, "\n  {}\n  ", Shown(text))?;
+    write_spaces(f, text.get(..place).unwrap_or(text))?;
+    f.write_str("^")
+}
+
+/// Writes as many spaces as the bytes have characters when they are shown.
+fn write_spaces<W: fmt::Write>(f: &mut fmt::Formatter<W>, text: &[u8]) -> fmt::Result {
+    for chunk in text.utf8_chunks() {
+        for character in chunk.valid().chars() {
+            let width = if character.is_control() {
+                character.escape_default().count()
+            } else {
+                1
+            };
+            for _ in 0..width {
+                f.write_str(" ")?;
+            }
+        }
+    }
+    Ok(())
 }
 
 impl From<globset::Error> for Fault {

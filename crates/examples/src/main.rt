@@ -2,6 +2,7 @@
 //!
 //! - `file_types` prints the types of paths, by a table of globs.
 //! - `owners` prints the owners of paths, by an owners file.
+//! - `check` prints the rules of an owners file that never decide.
 //! - `ignore_lines` prints the paths that an ignore file does not ignore.
 //! - `find_files` prints the paths of the files below a folder that its globs match.
 //!
@@ -11,6 +12,7 @@
 //! The runtime has its own type everywhere, since a type parameter for it doubles the proofs of the walk.
 #![tactic(auto)]
 
+mod check;
 mod command;
 mod fault;
 mod file_types;
@@ -18,6 +20,7 @@ mod find_files;
 mod ignore_lines;
 mod lines;
 mod output;
+mod owner_rule;
 mod owners;
 mod paths;
 mod shown;
@@ -31,10 +34,11 @@ use std::process::ExitCode;
 
 const PROGRAM: Command = Command {
     name: "examples",
-    help: "usage: examples file_types|owners|ignore_lines|find_files ARGUMENT..
+    help: "usage: examples file_types|owners|check|ignore_lines|find_files ARGUMENT..
 
   file_types    prints the types of the paths of its input, by a table of types
   owners        prints the owners of the paths of its input, by an owners file
+  check         prints the rules of an owners file that never decide, or pairs that overlap
   ignore_lines  prints the paths of its input that an ignore file does not ignore
   find_files    prints the paths of the files below a folder that some glob matches
 
@@ -69,6 +73,7 @@ fn run(rt: &HostRuntime, arguments: &[String]) -> ExitCode {
     match name.as_str() {
         "file_types" => file_types::COMMAND.end(rt, file_types::run(rt, rest)),
         "owners" => owners::COMMAND.end(rt, owners::run(rt, rest)),
+        "check" => check::COMMAND.end(rt, check::run(rt, rest)),
         "ignore_lines" => ignore_lines::COMMAND.end(rt, ignore_lines::run(rt, rest)),
         "find_files" => find_files::COMMAND.end(rt, find_files::run(rt, rest)),
         "-h" | "--help" => PROGRAM.end(rt, print_text(rt, PROGRAM.help)),

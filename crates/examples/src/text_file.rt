@@ -76,6 +76,37 @@ impl TextFile {
             .unwrap_or(Fault::OutOfMemory)
     }
 
+    /// Returns the error of a line, with a mark under the byte at a place. If there is no memory for that, returns the error that
+    /// memory ran out.
+    pub fn marked_fault(
+        &self,
+        alloc: Global,
+        number: usize,
+        text: &[u8],
+        place: usize,
+        reason: impl Display + Drop,
+    ) -> Fault {
+        self.marked(alloc, number, text, place, reason)
+            .unwrap_or(Fault::OutOfMemory)
+    }
+
+    fn marked(
+        &self,
+        alloc: Global,
+        number: usize,
+        text: &[u8],
+        place: usize,
+        reason: impl Display + Drop,
+    ) -> Result<Fault, AllocError> {
+        Ok(Fault::Marked {
+            file: self.name.clone()?,
+            number,
+            text: text.to_vec(alloc)?,
+            place,
+            reason: reason.to_string(alloc)?,
+        })
+    }
+
     fn line_fault(
         &self,
         alloc: Global,

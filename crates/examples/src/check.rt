@@ -1,0 +1,61 @@
+//! The command `check` prints the rules of an owners file that never decide about a path.
+//!
+//! A rule never decides if later rules match each path that it matches. With `--overlaps` it prints the pairs of rules that match
+//! a path in common. Paths are those that git has: relative, with components that are not empty, `.` or `..`.
+
+mod findings;
+mod overlaps;
+mod rules;
+mod unused;
+
+use crate::command::{Command, asks_for_help};
+use crate::fault::Fault;
+use crate::output::print_text;
+use crate::text_file::TextFile;
+use findings::Findings;
+use rules::Rules;
+use std::process::ExitCode;
+
+pub const COMMAND: Command = Command {
+    name: "check",
+    help: "usage: examples check [--overlaps] FILE
+
+Each line of FILE is a pattern and its owners, as a CODEOWNERS has them; the last rule that matches a path decides about it.
+For each rule that never decides, its line, its pattern and the lines that cover it are written to standard output.
+With --overlaps it is each pair of rules that match a path in common, with a shortest such path.
+Paths are relative, and no component is empty, . or .. in them. A line says unknown where an answer takes more than 10,000 sets of
+states.
+The exit status is 0 if nothing was written, 1 if a line was, and 2 after an error. For each pattern that is wrong, the line is
+written to standard error with a mark under the place.",
+};
+
+/// The option that asks for pairs of rules.
+const OVERLAPS: &str = "--overlaps";
+
+/// The most rows of a search.
+const LIMIT: usize = 10_000;
+
+/// Prints what is found about a file, or the help, and returns the exit status.
+pub fn run(rt: &HostRuntime, arguments: &[String]) -> Result<ExitCode, Fault> {
+    match arguments {
+        [argument] if asks_for_help(argument) => print_text(rt, COMMAND.help),
+        [option, name] if option.as_str() == OVERLAPS => check(rt, name.as_str(), true),
+        [name] if name.as_str() != OVERLAPS => check(rt, name.as_str(), false),
+        _ => Err(Fault::Usage),
+    }
+}
+
+/// Prints the rules of a file that never decide, or the pairs that overlap.
+fn check(rt: &HostRuntime, name: &str, overlaps: bool) -> Result<ExitCode, Fault> {
+    let file = TextFile::read(rt, name)?;
+    let Some(rules) = Rules::read(rt, &file, COMMAND)? else {
+        return Ok(ExitCode::from(2));
+    };
+    let mut findings = Findings::new(rt.alloc(), &file);
+    if overlaps {
+        findings.push_overlaps(rt.alloc(), &rules)?;
+    } else {
+        findings.push_unused(rt.alloc(), &rules)?;
+    }
+    findings.write(rt)
+}

@@ -1,0 +1,167 @@
+//! What is found about the rules of a file, a line each.
+
+use super::overlaps::common;
+use super::rules::{Rule, Rules};
+use super::unused::{Use, uses};
+use crate::fault::Fault;
+use crate::output::Output;
+use crate::shown::Shown;
+use crate::text_file::TextFile;
+use glob_relations::Intersection;
+use std::alloc::{AllocError, Global};
+use std::fmt;
+use std::process::ExitCode;
+
+/// The lines that are found about a file.
+pub struct Findings<'a> {
+    file: &'a str,
+    output: Output,
+    is_empty: bool,
+}
+
+impl Drop for Findings<'_> {
+    // One call wherever a value is dropped, which keeps proofs short.
+    fn drop(self) {
+        let Findings {
+            file: _,
+            output: _,
+            is_empty: _,
+        } = self;
+    }
+}
+
+impl<'a> Findings<'a> {
+    /// Returns no findings about a file.
+    pub fn new(alloc: Global, file: &'a TextFile) -> Findings<'a> {
+        Findings {
+            file: file.name(),
+            output: Output::new(alloc),
+            is_empty: true,
+        }
+    }
+
+    /// Adds each rule that never decides, or for which that is unknown.
+    pub fn push_unused(&mut self, alloc: Global, rules: &Rules<'_>) -> Result<(), Fault> {
+        let uses = uses(alloc, rules)?;
+        for (rule, found) in rules.rules.iter().zip(&uses) {
+            match found {
+                Use::Decides => {}
+                Use::Never(by) => {
+                    let lines = lines(alloc, rules, by)?;
+                    self.push(alloc, *rule, "never decides: ", Covering(&lines))?;
+                }
+                Use::Unknown => self.push(alloc, *rule, "may never decide: ", "unknown")?,
+            }
+        }
+        Ok(())
+    }
+
+    /// Adds each pair of rules that match a path in common, or for which that is unknown.
+    pub fn push_overlaps(&mut self, alloc: Global, rules: &Rules<'_>) -> Result<(), Fault> {
+        for (i, rule) in rules.rules.iter().enumerate() {
+            for later in rules.rules.iter().skip(i + 1) {
+                self.push_overlap(alloc, rules, *rule, *later)?;
+            }
+        }
+        Ok(())
+    }
+
+    /// Adds a pair of rules, if it is found that they match a path in common, or that is unknown.
+    fn push_overlap(
+        &mut self,
+        alloc: Global,
+        rules: &Rules<'_>,
+        rule: Rule<'_>,
+        later: Rule<'_>,
+    ) -> Result<(), Fault> {
+        match common(alloc, rules, rule, later)? {
+            Intersection::Disjoint => Ok(()),
+            Intersection::Both(path) => {
+                let pair = Pair {
+                    later,
+                    path: Shown(&path),
+                };
+                self.push(alloc, rule, "overlaps ", pair)
+            }
+            Intersection::Unknown => {
+                let pair = Pair {
+                    later,
+                    path: Shown(b"unknown"),
+                };
+                self.push(alloc, rule, "may overlap ", pair)
+            }
+        }
+    }
+
+    /// Adds a line about a rule.
+    fn push(
+        &mut self,
+        alloc: Global,
+        rule: Rule<'_>,
+        relation: &str,
+        what: impl fmt::Display + Drop,
+    ) -> Result<(), Fault> {
+        let pattern = Shown(rule.pattern.as_bytes());
+        let file = Shown(self.file.as_bytes());
+        let line = format!(in alloc; "{file}:{}: {pattern} {relation}{what}", rule.line)?;
+        self.is_empty = false;
+        self.output.push_line(&[line.as_bytes()])?;
+        Ok(())
+    }
+
+    /// Writes the lines to standard output. Returns the exit status 0 if there are none, or else 1.
+    pub fn write(&self, rt: &HostRuntime) -> Result<ExitCode, Fault> {
+        let status = self.output.write(rt)?;
+        Ok(if self.is_empty {
+            status
+        } else {
+            ExitCode::from(1)
+        })
+    }
+}
+
+/// A later rule, and a path, as they are printed.
+#[derive(Clone, Copy)]
+struct Pair<'a> {
+    later: Rule<'a>,
+    path: Shown<'a>,
+}
+
+impl fmt::Display for Pair<'_> {
+    fn fmt<W: fmt::Write>(&self, f: &mut fmt::Formatter<W>) -> fmt::Result {
+        let pattern = Shown(self.later.pattern.as_bytes());
+        write!(f, "line {}, {pattern}: {}", self.later.line, self.path)
+    }
+}
+
+/// The lines that cover a rule, as they are printed.
+#[derive(Clone, Copy)]
+struct Covering<'a>(&'a [usize]);
+
+impl fmt::Display for Covering<'_> {
+    fn fmt<W: fmt::Write>(&self, f: &mut fmt::Formatter<W>) -> fmt::Result {
+        match self.0 {
+            [] => f.write_str("it matches no path"),
+            [line] => write!(f, "line {line} covers it"),
+            [before @ .., last] => {
+                f.write_str("lines ")?;
+                for (i, line) in before.iter().enumerate() {
+                    f.write_str(if i == 0 { "" } else { ", " })?;
+                    line.fmt(f)?;
+                }
+                write!(f, " and {last} cover it")
+            }
+        }
+    }
+}
+
+/// Returns the numbers of the lines of the rules with these indexes.
+fn lines(alloc: Global, rules: &Rules<'_>, indexes: &[usize]) -> Result<Vec<usize>, AllocError> {
+    let mut lines = Vec::new(alloc);
+    for index in indexes {
+        if let Some(rule) = rules.rules.get(*index) {
+            lines.push(rule.line)?;
+        }
+    }
+    Ok(lines)
+}

@@ -1,0 +1,115 @@
+//! The rules of an owners file, with their globs.
+
+use crate::command::Command;
+use crate::fault::Fault;
+use crate::owner_rule::OwnerRule;
+use crate::text_file::TextFile;
+use globset::{Error, Glob};
+use std::alloc::{AllocError, Global};
+
+/// A rule, and which of the globs of all rules are its own.
+#[derive(Clone, Copy)]
+pub struct Rule<'t> {
+    /// The number of its line, counted from 1.
+    pub line: usize,
+    /// Its pattern.
+    pub pattern: &'t str,
+    start: usize,
+    end: usize,
+}
+
+/// The rules of an owners file, and all their globs, in the order of the lines.
+pub struct Rules<'t> {
+    pub rules: Vec<Rule<'t>>,
+    pub globs: Vec<Glob>,
+}
+
+impl Drop for Rules<'_> {
+    // One call wherever a value is dropped, which keeps proofs short.
+    fn drop(self) {
+        let Rules { rules: _, globs: _ } = self;
+    }
+}
+
+impl<'t> Rules<'t> {
+    /// Reads an owners file. Returns `None` if a pattern cannot be read; then the error of each such pattern was written to
+    /// standard error.
+    pub fn read(
+        rt: &HostRuntime,
+        file: &'t TextFile,
+        command: Command,
+    ) -> Result<Option<Rules<'t>>, Fault> {
+        let mut rules = Rules::new(rt.alloc());
+        let mut is_right = true;
+        for (i, line) in file.lines(rt.alloc())?.iter().enumerate() {
+            let rule = OwnerRule::new(line);
+            match rule.globs(rt.alloc()) {
+                Ok(globs) => rules.push(i + 1, rule.pattern, globs)?,
+                Err(error) => {
+                    is_right = false;
+                    command.report(rt, &pattern_fault(rt.alloc(), file, i + 1, line, error)?);
+                }
+            }
+        }
+        Ok(if is_right { Some(rules) } else { None })
+    }
+
+    fn new(alloc: Global) -> Rules<'t> {
+        Rules {
+            rules: Vec::new(alloc),
+            globs: Vec::new(alloc),
+        }
+    }
+
+    /// Adds a rule, if it has a pattern.
+    fn push(&mut self, line: usize, pattern: &'t str, globs: Vec<Glob>) -> Result<(), AllocError> {
+        if pattern.is_empty() {
+            return Ok(());
+        }
+        let start = self.globs.len();
+        for glob in globs {
+            self.globs.push(glob)?;
+        }
+        let end = self.globs.len();
+        self.rules.push(Rule {
+            line,
+            pattern,
+            start,
+            end,
+        })?;
+        Ok(())
+    }
+
+    /// Returns the globs of a rule.
+    pub fn globs_of(&self, rule: Rule<'_>) -> &[Glob] {
+        self.globs.get(rule.start..rule.end).unwrap_or(&[])
+    }
+
+    /// Returns the globs of all later rules.
+    pub fn globs_after(&self, rule: Rule<'_>) -> &[Glob] {
+        self.globs.get(rule.end..).unwrap_or(&[])
+    }
+}
+
+impl Rule<'_> {
+    /// Returns whether the glob with an index, among those of all rules, is the rule's own.
+    pub fn has(self, index: usize) -> bool {
+        (self.start..self.end).contains(&index)
+    }
+}
+
+/// Returns the error of a line whose pattern cannot be read.
+fn pattern_fault(
+    alloc: Global,
+    file: &TextFile,
+    number: usize,
+    line: &str,
+    error: Error,
+) -> Result<Fault, Fault> {
+    let Some(offset) = error.offset() else {
+        return Err(Fault::Glob(error));
+    };
+    let indent = line.len() - line.trim_start().len();
+    let place = indent + OwnerRule::new(line).place_in_pattern(offset);
+    Ok(file.marked_fault(alloc, number, line.as_bytes(), place, error.kind()))
+}
