@@ -1,7 +1,7 @@
 -- Decisions about all folders above a path, as a list: the decision about a folder is at the index of the `/` after it in the
 -- path.
 use Rattle.std.specs.Prelude.{◌≡◌, ◌≢◌, ◌≤◌, ◌<◌, ℕ, List, length, take, drop, get_or}
-use Rattle.git_ignore.specs.Folders.{or_else}
+use Rattle.git_ignore.specs.TwoRules.{or_else}
 use Rattle.git_ignore.specs.declared.decision.Decision.{Decision}
 use Rattle.git_ignore.specs.declared.decision.Decision.TheVariants.{Undecided}
 

@@ -1,4 +1,5 @@
 pub mod Rules
+pub mod TwoRules
 pub mod Folders
 pub mod FolderDecisions
 pub mod RulesValue

@@ -2,7 +2,7 @@
 
 ghost use Rattle.std.specs.Prelude.{◌≡◌, ◌↔◌, IsTrue};
 ghost use Rattle.git_ignore.specs.declared.decision.Decision.TheVariants.{Undecided};
-ghost use Rattle.git_ignore.specs.Folders.{ignores};
+ghost use Rattle.git_ignore.specs.TwoRules.{ignores};
 
 /// The decision of an ignore file about a path.
 #[derive(Clone, Copy, Debug, PartialEq, Eq)]

@@ -1,15 +1,16 @@
 //! The rules of an ignore file among several.
 
-ghost use Rattle.std.specs.Prelude.{◌≡◌, ◌<◌, ◌≤◌, ◌==◌, ◌&&◌, true, false, IfOk, IsOkUnless, length, take, slice_index};
+ghost use Rattle.std.specs.Prelude.{◌≡◌, IfOk, IsOkUnless};
 ghost use Rattle.globset.specs.Errors.{out_of_memory};
 ghost use Rattle.globset.specs.SetValue.{FitsAsBefore};
-ghost use Rattle.git_ignore.specs.Folders.{file_decision, files_decision, ignores, is_below_ignored, decision_below};
+ghost use Rattle.git_ignore.specs.Folders.{file_decision, files_decision};
 ghost use Rattle.git_ignore.specs.RulesValue.{FitsRules};
 ghost use Rattle.git_ignore.specs.inner.Stacks.{FitAll, file_of, files_of};
 
 use crate::decision::Decision;
 use crate::rules::Rules;
 use crate::scratch::IgnoreScratch;
+use crate::two_rules::DecidesAlone;
 use globset::Error;
 use std::alloc::Global;
 
@@ -54,7 +55,7 @@ impl FolderRules {
     }
 }
 
-/// Returns the files' decision about a path, which begins in the top folder; later files take precedence.
+/// Returns the files' decision about a path alone, which begins in the top folder; later files take precedence.
 fn decide_alone(
     files: &[FolderRules],
     path: &[u8],
@@ -76,62 +77,15 @@ fn decide_alone(
     Decision::Undecided
 }
 
-/// Returns what files say of a path, which begins in the top folder, and of the folders above it. None of the folders that end
-/// before `start` is ignored.
-pub fn decide_below(
-    files: &[FolderRules],
-    path: &[u8],
-    start: usize,
-    is_folder: bool,
-    scratch: &mut IgnoreScratch,
-) -> Decision
-    requires fits { FitAll scratch.old files.now }
-    requires within { start ≤ length path.now }
-    requires above { is_below_ignored (files_of files.now) (take start path.now) ≡ false }
-    ensures decision { result ≡ decision_below (files_of files.now) path.now is_folder }
-    ensures scratch { scratch.new ≡ scratch.old }
-{
-    if ignores_above(files, path, start, scratch) {
-        return Decision::Ignored;
-    }
-    decide_alone(files, path, is_folder, scratch)
-}
+impl DecidesAlone for Vec<FolderRules> {
+    ghost use Rattle.git_ignore.specs.Folders.{files_decision};
+    ghost use Rattle.git_ignore.specs.inner.Stacks.{FitAll, files_of};
 
-/// Returns whether files ignore a folder above a path, which begins in the top folder. None of the folders that end before
-/// `start` is ignored.
-fn ignores_above(
-    files: &[FolderRules],
-    path: &[u8],
-    start: usize,
-    scratch: &mut IgnoreScratch,
-) -> bool
-    requires fits { FitAll scratch.old files.now }
-    requires within { start ≤ length path.now }
-    requires above { is_below_ignored (files_of files.now) (take start path.now) ≡ false }
-    ensures ignored { result ≡ is_below_ignored (files_of files.now) path.now }
-    ensures scratch { scratch.new ≡ scratch.old }
-{
-    for end in start..path.len() {
-        if ignores_folder(files, path, end, scratch) {
-            return true;
-        }
-    }
-    false
-}
+    ghost fits = { λ scratch files. FitAll scratch files.items };
 
-/// Returns whether a `/` is at this place of a path, and files ignore the folder before it.
-fn ignores_folder(
-    files: &[FolderRules],
-    path: &[u8],
-    end: usize,
-    scratch: &mut IgnoreScratch,
-) -> bool
-    requires fits { FitAll scratch.old files.now }
-    requires within { end < length path.now }
-    ensures ignored { result
-        ≡ (slice_index path.now end == 47
-        && ignores (files_decision (files_of files.now) (take end path.now) true)) }
-    ensures scratch { scratch.new ≡ scratch.old }
-{
-    path[end] == b'/' && decide_alone(files, &path[..end], true, scratch).is_ignored()
+    ghost alone = { λ files. files_decision (files_of files.items) };
+
+    fn decide_alone(&self, path: &[u8], is_folder: bool, scratch: &mut IgnoreScratch) -> Decision {
+        decide_alone(self, path, is_folder, scratch)
+    }
 }

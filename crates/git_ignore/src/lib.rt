@@ -82,6 +82,7 @@ mod stack;
 mod stored;
 #[cfg(test)]
 mod tests;
+mod two_rules;
 
 pub use decision::Decision;
 pub use rules::Rules;

@@ -6,6 +6,7 @@ ghost use Rattle.globset.specs.Errors.{out_of_memory};
 ghost use Rattle.git_ignore.specs.FolderDecisions.{ArePut};
 ghost use Rattle.git_ignore.specs.Rules.{deciding_line, decision, last_rule, rules_of};
 ghost use Rattle.git_ignore.specs.RulesValue.{FitsRules};
+ghost use Rattle.git_ignore.specs.TwoRules.{decision_below, nearest_decision};
 ghost use Rattle.git_ignore.specs.inner.Entries.{entry_of_rule};
 
 use crate::decision::Decision;
@@ -13,6 +14,7 @@ use crate::entry::{RuleEntry, decision_by, line_by};
 use crate::reading::{RulesBuilder, after_mark};
 use crate::scratch::IgnoreScratch;
 use crate::stored::StoredRules;
+use crate::two_rules::{self, DecidesAlone};
 use globset::{Candidate, Error, GlobSet, Visits};
 use std::alloc::{AllocError, Global};
 use std::marker::Model;
@@ -60,14 +62,63 @@ impl Rules {
 
     /// Returns the decision of the file about a path below its folder: the last rule that applies decides.
     ///
-    /// The path begins in the folder of the file. Everything below an ignored folder is ignored, too: see [`crate::IgnoreStack`].
-    /// The scratch has to fit the rules, and fits the same rules afterwards.
+    /// The path begins in the folder of the file. The folders above it do not count: [`Rules::decide_below`] and
+    /// [`Rules::decide_nearest`] are two rules by which they do. The scratch has to fit the rules, and fits the same rules
+    /// afterwards.
     pub fn decide(&self, path: &[u8], is_folder: bool, scratch: &mut IgnoreScratch) -> Decision
         requires { FitsRules scratch.old self.now }
         ensures decision { result ≡ decision self.now.file path.now is_folder }
         ensures scratch { scratch.new ≡ scratch.old }
     {
         decision_by(self.last_entry(path, is_folder, scratch))
+    }
+
+    /// Returns the decision of the file about a path by git's rule: everything below an ignored folder is ignored, and no rule keeps
+    /// it. That a folder is kept says nothing about its contents.
+    ///
+    /// It takes a pass over the path of each folder above the path, from the top down to the first that is ignored, and then a
+    /// pass over the path. So the time grows with the square of their number.
+    pub fn decide_below(
+        &self,
+        path: &[u8],
+        is_folder: bool,
+        scratch: &mut IgnoreScratch,
+    ) -> Decision
+        requires { FitsRules scratch.old self.now }
+        ensures decision { result ≡ decision_below (decision self.now.file) path.now is_folder }
+        ensures scratch { scratch.new ≡ scratch.old }
+    {
+        two_rules::decide_below(self, path, 0, is_folder, scratch)
+    }
+
+    /// Returns the nearest decision of the file: the decision about a path, or if there is none, about the nearest folder above it
+    /// that has one. So a rule can keep a path below an ignored folder, as the lists of files to include of packaging tools mean
+    /// it; git ignores that path.
+    ///
+    /// It takes a pass over the path, and then over the path of each folder above it, from the nearest up to the first with a
+    /// decision. So the time grows with the square of their number.
+    ///
+    /// ```rust
+    /// use git_ignore::{Decision, IgnoreScratch, Rules};
+    ///
+    /// let rules = Rules::new(alloc, b"/src\n!/src/secret.py\n")?;
+    /// let mut scratch = IgnoreScratch::new(alloc, &rules)?;
+    /// let path = b"src/secret.py";
+    /// assert_eq!(rt; rules.decide_nearest(path, false, &mut scratch), Decision::Kept);
+    /// assert_eq!(rt; rules.decide_below(path, false, &mut scratch), Decision::Ignored);
+    /// assert_eq!(rt; rules.decide_nearest(b"src/main.py", false, &mut scratch), Decision::Ignored);
+    /// ```
+    pub fn decide_nearest(
+        &self,
+        path: &[u8],
+        is_folder: bool,
+        scratch: &mut IgnoreScratch,
+    ) -> Decision
+        requires { FitsRules scratch.old self.now }
+        ensures decision { result ≡ nearest_decision (decision self.now.file) path.now is_folder }
+        ensures scratch { scratch.new ≡ scratch.old }
+    {
+        two_rules::decide_nearest(self, path, is_folder, scratch)
     }
 
     /// Returns the number of the line with the last rule that applies to a path, counted from 1, or `None` if no rule does.
@@ -173,5 +224,18 @@ impl Rules {
         ensures { IfOk result (λ stored. arc_value stored ≡ self.now) }
     {
         Arc::try_clone(&self.stored)
+    }
+}
+
+impl DecidesAlone for Rules {
+    ghost use Rattle.git_ignore.specs.Rules.{decision};
+    ghost use Rattle.git_ignore.specs.RulesValue.{FitsRules};
+
+    ghost fits = { FitsRules };
+
+    ghost alone = { λ rules. decision rules.file };
+
+    fn decide_alone(&self, path: &[u8], is_folder: bool, scratch: &mut IgnoreScratch) -> Decision {
+        self.decide(path, is_folder, scratch)
     }
 }

@@ -2,12 +2,14 @@
 
 ghost use Rattle.std.specs.Prelude.{◌≡◌, ◌++◌, ◌∷◌, [], true, IfOk, IsOkUnless, OnOk, OnErr, length, take};
 ghost use Rattle.globset.specs.Errors.{out_of_memory};
-ghost use Rattle.git_ignore.specs.Folders.{decision_below, ignores, is_below_ignored};
+ghost use Rattle.git_ignore.specs.Folders.{files_decision};
 ghost use Rattle.git_ignore.specs.StackValue.{at_top, entered, left, stack_files, with_file};
+ghost use Rattle.git_ignore.specs.TwoRules.{decision_below, ignores, is_below_ignored, nearest_decision};
 
 use crate::decision::Decision;
-use crate::folder_rules::{FolderRules, decide_below};
+use crate::folder_rules::FolderRules;
 use crate::scratch::IgnoreScratch;
+use crate::two_rules::{decide_below, decide_nearest};
 use globset::{Error, GlobSet};
 use std::alloc::{AllocError, Global};
 use std::marker::Model;
@@ -27,11 +29,14 @@ pub struct FolderLevel {
 ///
 /// A walk begins in its top folder. [`IgnoreStack::enter`] goes down into a folder, [`IgnoreStack::leave`] goes up, and
 /// [`IgnoreStack::add_file`] reads an ignore file of the folder that the walk is in. Files of deeper folders take precedence, and
-/// in a folder the file that was added last. Everything below an ignored folder is ignored; no rule keeps it.
+/// in a folder the file that was added last.
 ///
-/// [`IgnoreStack::enter`] stores whether the folder is ignored. So the name of an entry costs a pass over its path for each
-/// ignore file above it. A path through folders that were not entered also costs such passes for each of these folders, down to
-/// the first that is ignored. The time grows with the square of their number.
+/// [`IgnoreStack::decide`] decides by git's rule: everything below an ignored folder is ignored, and no rule keeps it.
+/// [`IgnoreStack::decide_nearest`] decides by the nearest decision.
+///
+/// [`IgnoreStack::enter`] stores whether git's rule ignores the folder. So by this rule the name of an entry costs a pass over its
+/// path for each ignore file above it. A path through folders that were not entered also costs such passes for each of these
+/// folders, down to the first that is ignored. The time grows with the square of their number.
 ///
 /// All files share an [`IgnoreScratch`]. The rules of each keep rows between calls, as a [`GlobSet`] does.
 ///
@@ -89,9 +94,10 @@ impl IgnoreStack {
         &self.folder
     }
 
-    /// Returns whether the folder that the walk is in is ignored, or a folder above it is. Then all that is in it is ignored.
+    /// Returns whether the folder that the walk is in is ignored, or a folder above it is. Then by git's rule all that is in it is
+    /// ignored.
     pub fn is_ignored(&self) -> bool
-        ensures { result ≡ is_below_ignored (stack_files self.now) self.now.here.path }
+        ensures { result ≡ is_below_ignored (files_decision (stack_files self.now)) self.now.here.path }
     {
         self.is_ignored
     }
@@ -110,7 +116,7 @@ impl IgnoreStack {
         Ok(())
     }
 
-    /// Goes down into a folder of this name. If it is ignored, its ignore files need not be added.
+    /// Goes down into a folder of this name. If it is ignored by git's rule, its ignore files have no effect by this rule.
     ///
     /// After an error nothing has changed.
     pub fn enter(&mut self, name: &[u8]) -> Result<(), Error>
@@ -135,14 +141,14 @@ impl IgnoreStack {
         }
     }
 
-    /// Returns the decision of the ignore files about a path below the current folder, such as the name of an entry.
+    /// Returns the decision of the ignore files about a path below the current folder, such as the name of an entry, by git's rule.
     ///
     /// The folders that the path names above its last component count, too: below an ignored folder, the path is ignored.
     ///
     /// The call allocates to put the folder's path in front of this path.
     pub fn decide(&mut self, path: &[u8], is_folder: bool) -> Result<Decision, Error>
         ensures decision { IfOk result
-            (λ d. d ≡ decision_below (stack_files self.old) (self.old.here.path ++ path.now)
+            (λ d. d ≡ decision_below (files_decision (stack_files self.old)) (self.old.here.path ++ path.now)
             is_folder) }
         ensures same { self.new ≡ self.old }
         ensures err { IsOkUnless result out_of_memory }
@@ -163,10 +169,33 @@ impl IgnoreStack {
         Ok(decision)
     }
 
+    /// Returns the nearest decision of the ignore files about a path below the current folder: the decision about the path, or if
+    /// there is none, about the nearest folder above it that has one. Both are decisions of the deepest file with a rule that
+    /// applies.
+    ///
+    /// So a rule can keep a path below an ignored folder: see [`crate::Rules::decide_nearest`]. The ignore files of folders that
+    /// are ignored count.
+    ///
+    /// The call allocates as [`IgnoreStack::decide`] does. It takes a pass over the path for each ignore file above it, and then
+    /// such passes for the folders above it, from the nearest up to the first with a decision.
+    pub fn decide_nearest(&mut self, path: &[u8], is_folder: bool) -> Result<Decision, Error>
+        ensures decision { IfOk result
+            (λ d. d ≡ nearest_decision (files_decision (stack_files self.old))
+            (self.old.here.path ++ path.now) is_folder) }
+        ensures same { self.new ≡ self.old }
+        ensures err { IsOkUnless result out_of_memory }
+    {
+        let start = self.folder.len();
+        self.folder.extend_from_slice(path)?;
+        let decision = decide_nearest(&self.files, &self.folder, is_folder, &mut self.scratch);
+        self.folder.truncate(start);
+        Ok(decision)
+    }
+
     /// Goes down into a folder of this name, which is ignored or not. After an error nothing has changed.
     fn push_level(&mut self, name: &[u8], is_ignored: bool) -> Result<(), AllocError>
         requires { is_ignored
-            ≡ ignores (decision_below (stack_files self.old) (self.old.here.path ++ name.now)
+            ≡ ignores (decision_below (files_decision (stack_files self.old)) (self.old.here.path ++ name.now)
             true) }
         ensures entered { OnOk result (self.new ≡ entered self.old name.now) }
         ensures kept { OnErr result (self.new ≡ self.old) }

@@ -1,6 +1,6 @@
 //! What no clause says: that calls succeed, and that a searcher outlives its rules.
 
-use crate::{Decision, Rules, RulesSearcher};
+use crate::{Decision, IgnoreScratch, IgnoreStack, Rules, RulesSearcher};
 use globset::Error;
 use std::alloc::Global;
 
@@ -80,6 +80,80 @@ fn searcher_decides_about_folders_again(rt: HostRuntime) -> Result<(), Error> {
         assert_eq!(rt; decisions[7], Decision::Ignored);
         assert_eq!(rt; wrong_row(&mut searcher), None);
     }
+    Ok(())
+}
+
+const TWO_RULES: &[u8] = b"/src\n!/src/secret.py\n!/src/a/\n*.o\n!keep.o\n/out/\n/out/x/y\n";
+
+/// Each path, of a folder or not, with git's decision about it (`git check-ignore` prints no more than this), and with the nearest
+/// decision, by hand.
+const BY_TWO_RULES: [(&[u8], bool, Decision, Decision); 12] = [
+    (b"src", true, Decision::Ignored, Decision::Ignored),
+    (b"src/secret.py", false, Decision::Ignored, Decision::Kept),
+    (b"src/main.py", false, Decision::Ignored, Decision::Ignored),
+    (b"src/a", false, Decision::Ignored, Decision::Ignored),
+    (b"src/a", true, Decision::Ignored, Decision::Kept),
+    (b"src/a/b/c", false, Decision::Ignored, Decision::Kept),
+    (b"src/a/b/c.o", false, Decision::Ignored, Decision::Ignored),
+    (b"keep.o/a", false, Decision::Undecided, Decision::Kept),
+    (b"out/keep.o", false, Decision::Ignored, Decision::Kept),
+    (b"out/x/z", false, Decision::Ignored, Decision::Ignored),
+    (b"out", false, Decision::Undecided, Decision::Undecided),
+    (b"lib/a/b", true, Decision::Undecided, Decision::Undecided),
+];
+
+#[test]
+fn two_rules_decide(rt: HostRuntime) -> Result<(), Error> {
+    let alloc = rt.alloc();
+    let rules = Rules::new(alloc, TWO_RULES)?;
+    let mut scratch = IgnoreScratch::new(alloc, &rules)?;
+    let mut stack = IgnoreStack::new(alloc)?;
+    stack.add_file(TWO_RULES)?;
+    for (row, (path, is_folder, below, nearest)) in BY_TWO_RULES.iter().enumerate() {
+        assert_eq!(rt;
+            rules.decide_below(path, *is_folder, &mut scratch),
+            *below,
+            "row {row}"
+        );
+        assert_eq!(rt;
+            rules.decide_nearest(path, *is_folder, &mut scratch),
+            *nearest,
+            "row {row}"
+        );
+        assert_eq!(rt; stack.decide(path, *is_folder)?, *below, "row {row}");
+        assert_eq!(rt;
+            stack.decide_nearest(path, *is_folder)?,
+            *nearest,
+            "row {row}"
+        );
+    }
+    Ok(())
+}
+
+#[test]
+fn nearest_decision_of_nested_files(rt: HostRuntime) -> Result<(), Error> {
+    let mut stack = IgnoreStack::new(rt.alloc())?;
+    stack.add_file(b"/build\n*.log\n")?;
+    stack.enter(b"build")?;
+    stack.add_file(b"!keep.txt\n!b/\n")?;
+    assert_eq!(rt; stack.decide(b"keep.txt", false)?, Decision::Ignored);
+    assert_eq!(rt; stack.decide_nearest(b"keep.txt", false)?, Decision::Kept);
+    assert_eq!(rt; stack.decide_nearest(b"a.txt", false)?, Decision::Ignored);
+
+    // The folders that are not entered count, too, and so do files above.
+    assert_eq!(rt; stack.decide_nearest(b"a/b/c", false)?, Decision::Kept);
+    assert_eq!(rt;
+        stack.decide_nearest(b"a/b/c.log", false)?,
+        Decision::Ignored
+    );
+    stack.enter(b"b")?;
+    assert_eq!(rt; stack.decide_nearest(b"c", false)?, Decision::Kept);
+    stack.leave();
+    stack.leave();
+    assert_eq!(rt;
+        stack.decide_nearest(b"build/keep.txt", false)?,
+        Decision::Ignored
+    );
     Ok(())
 }
 

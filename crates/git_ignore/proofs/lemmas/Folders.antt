@@ -3,12 +3,12 @@ use Rattle.std.proofs.Common.{◌≡◌, ◌⊎◌, inl, inr, ℕ, ◌+◌, ◌-
 use Rattle.std.specs.Prelude.{◌≢◌}
 use Rattle.std.proofs.lemmas.Bool.{cases_lt, cases_eq}
 use Rattle.std.proofs.lemmas.List.{drop-take, get_or_default, get_or_past, get_or-set_same, get_or-set_other}
-use Rattle.git_ignore.specs.Folders.{or_else}
+use Rattle.git_ignore.specs.TwoRules.{or_else}
 use Rattle.git_ignore.specs.FolderDecisions.{ArePut}
 use Rattle.git_ignore.specs.declared.decision.Decision.{Decision}
 use Rattle.git_ignore.specs.declared.decision.Decision.TheVariants.{Undecided}
 use Rattle.git_ignore.specs.inner.FolderParts.{ArePutUpTo}
-use Rattle.git_ignore.proofs.lemmas.Stacks.{or_else_decided}
+use Rattle.git_ignore.proofs.lemmas.TwoRules.{or_else_decided}
 
 -- one byte more, after which the list differs at most there
 byte_done : (say : List ℕ → Decision) (path : List ℕ) (start i : ℕ) (old cur new : List Decision) → start ≤ i → ArePutUpTo say path start i old cur

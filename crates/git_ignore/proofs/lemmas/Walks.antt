@@ -5,14 +5,16 @@ use Rattle.std.proofs.lemmas.List.{drop-append-le, length-map, map-append, rever
 use Rattle.std.proofs.lemmas.List.Elements.{All-append, All-take}
 use Rattle.std.proofs.Math.Seq.{drop-length, take-append_seam, take-length}
 use Rattle.globset.specs.SetValue.{ScratchValue, FitsAsBefore}
-use Rattle.git_ignore.specs.Folders.{IgnoreFile, ignores, is_below_ignored, decision_below}
+use Rattle.git_ignore.specs.Folders.{IgnoreFile, files_decision}
+use Rattle.git_ignore.specs.TwoRules.{ignores, is_below_ignored, decision_below}
 use Rattle.git_ignore.specs.RulesValue.{FitsRules}
 use Rattle.git_ignore.specs.StackValue.{StackValue, entered, left, stack_files, with_file}
 use Rattle.git_ignore.specs.declared.folder_rules.FolderRules.{FolderRules}
 use Rattle.git_ignore.specs.declared.stack.FolderLevel.{FolderLevel}
 use Rattle.git_ignore.specs.inner.Stacks.{AreIn, AreInFolders, AreLevels, FitAll, above_of, bytes_of, file_of, files_of, here_of}
 use Rattle.git_ignore.specs.inner.StackParts.{IsStack, stack_value, walk_of}
-use Rattle.git_ignore.proofs.lemmas.Stacks.{added_kept, entered_ignored, fit_one, fit_still, level_pushed, levels_kept}
+use Rattle.git_ignore.proofs.lemmas.Stacks.{added_kept, fit_one, fit_still, level_pushed, levels_kept}
+use Rattle.git_ignore.proofs.lemmas.TwoRules.{entered_ignored}
 
 -- ---- the folders of a walk, and their files
 
@@ -76,8 +78,8 @@ file_added folder shown bytes b files all levels old new r h put is same before 
     let more : files_of all ≡ files_of files ++ file_of r ∷ [] = ap files_of put ∙ map-append file_of files (r ∷ []) in
     record {
       ignored = h.ignored
-          ∙ sym (subst (λ (p : List ℕ). is_below_ignored (files_of files ++ file_of r ∷ []) p ≡ is_below_ignored (files_of files) p) place (added_kept (files_of files) (file_of r)))
-          ∙ ap (λ (fs : List IgnoreFile). is_below_ignored fs folder) (sym more);
+          ∙ sym (subst (λ (p : List ℕ). is_below_ignored (files_decision (files_of files ++ file_of r ∷ [])) p ≡ is_below_ignored (files_decision (files_of files)) p) place (added_kept (files_of files) (file_of r)))
+          ∙ ap (λ (fs : List IgnoreFile). is_below_ignored (files_decision fs) folder) (sym more);
       above = subst (λ (fs : List IgnoreFile). AreLevels folder fs (reverse levels)) (sym more) (levels_kept folder (files_of files) (file_of r ∷ []) (reverse levels) h.above);
       placed = subst (λ (fs : List IgnoreFile). AreInFolders folder fs (reverse levels)) (sym more) (placed_more folder (files_of files) (file_of r) (reverse levels) h.above h.placed place);
       fits = subst (λ (fs : List FolderRules). FitAll new fs) (sym put)
@@ -118,13 +120,13 @@ module _ (folder more : List ℕ) (files : List IgnoreFile) (l : FolderLevel) (l
 
 pub folder_entered : (folder name longer_folder : List ℕ) (b c : Bool) (files : List FolderRules) (levels all : List FolderLevel) (scratch : ScratchValue) (l : FolderLevel)
     → IsStack folder b files levels scratch → longer_folder ≡ folder ++ name ++ 47 ∷ [] → all ≡ levels ++ l ∷ []
-    → l.folder ≡ length folder → l.files ≡ length files → l.is_ignored ≡ b → c ≡ ignores (decision_below (files_of files) (folder ++ name) true)
+    → l.folder ≡ length folder → l.files ≡ length files → l.is_ignored ≡ b → c ≡ ignores (decision_below (files_decision (files_of files)) (folder ++ name) true)
     → IsStack longer_folder c files all scratch
 folder_entered folder name longer_folder b c files levels all scratch l h put pushed e n i is =
     let whole : longer_folder ≡ folder ++ (name ++ 47 ∷ []) = put ∙ append_assoc folder name (47 ∷ []) in
     let counted = n ∙ sym (length-map files file_of) in
     record {
-      ignored = is ∙ entered_ignored (files_of files) (folder ++ name) ∙ ap (is_below_ignored (files_of files)) (sym put);
+      ignored = is ∙ entered_ignored (files_decision (files_of files)) (folder ++ name) ∙ ap (is_below_ignored (files_decision (files_of files))) (sym put);
       above = subst (λ (ls : List FolderLevel). AreLevels longer_folder (files_of files) ls) (sym (ap reverse pushed ∙ one_reversed levels l))
           (subst (λ (p : List ℕ). AreLevels p (files_of files) (l ∷ reverse levels)) (sym whole)
           (level_pushed folder (name ++ 47 ∷ []) (files_of files) l (reverse levels) e counted (i ∙ h.ignored) h.above));
@@ -157,7 +159,7 @@ folder_left folder shorter_folder b files fewer levels rest scratch l h popped c
     let in_folders = subst (λ (ls : List FolderLevel). AreInFolders folder (files_of files) ls) (ap reverse popped ∙ one_reversed rest l) h.placed in
     let few : files_of fewer ≡ take l.files (files_of files) = ap files_of cut_files ∙ sym (take-map file_of l.files files) in
     record {
-      ignored = all.0.ignored ∙ (λ k. is_below_ignored (sym few k) (sym cut k));
+      ignored = all.0.ignored ∙ (λ k. is_below_ignored (files_decision (sym few k)) (sym cut k));
       above = subst (λ (fs : List IgnoreFile). AreLevels shorter_folder fs (reverse rest)) (sym few) (subst (λ (p : List ℕ). AreLevels p (take l.files (files_of files)) (reverse rest)) (sym cut) all.1);
       placed = subst (λ (fs : List IgnoreFile). AreInFolders shorter_folder fs (reverse rest)) (sym few) (subst (λ (p : List ℕ). AreInFolders p (take l.files (files_of files)) (reverse rest)) (sym cut) in_folders.1);
       fits = subst (λ (fs : List FolderRules). FitAll scratch fs) (sym cut_files) (All-take (λ (f : FolderRules). FitsRules scratch f.rules) l.files files h.fits);

@@ -1,6 +1,6 @@
 -- Decisions about the folders above a path, as they are put. No contract of the crate's public calls cites this.
 use Rattle.std.specs.Prelude.{◌≡◌, ◌≢◌, ◌≤◌, ◌<◌, ℕ, List, take, drop, get_or}
-use Rattle.git_ignore.specs.Folders.{or_else}
+use Rattle.git_ignore.specs.TwoRules.{or_else}
 use Rattle.git_ignore.specs.declared.decision.Decision.{Decision}
 use Rattle.git_ignore.specs.declared.decision.Decision.TheVariants.{Undecided}
 

@@ -1,7 +1,8 @@
 -- A walk by its stored form. No contract of the crate's public calls cites this.
 use Rattle.std.specs.Prelude.{◌≡◌, ℕ, Bool, List, reverse}
 use Rattle.globset.specs.SetValue.{ScratchValue}
-use Rattle.git_ignore.specs.Folders.{IgnoreFile, is_below_ignored}
+use Rattle.git_ignore.specs.Folders.{IgnoreFile, files_decision}
+use Rattle.git_ignore.specs.TwoRules.{is_below_ignored}
 use Rattle.git_ignore.specs.StackValue.{StackValue}
 use Rattle.git_ignore.specs.declared.folder_rules.FolderRules.{FolderRules}
 use Rattle.git_ignore.specs.declared.stack.FolderLevel.{FolderLevel}
@@ -15,7 +16,7 @@ abbrev pub stack_value : List ℕ → List FolderRules → List FolderLevel → 
 stack_value folder files levels = walk_of folder (files_of files) (reverse levels)
 
 pub record IsStack (folder : List ℕ) (is_ignored : Bool) (files : List FolderRules) (levels : List FolderLevel) (scratch : ScratchValue) : Type 0 where
-  pub ignored : is_ignored ≡ is_below_ignored (files_of files) folder
+  pub ignored : is_ignored ≡ is_below_ignored (files_decision (files_of files)) folder
   pub above : AreLevels folder (files_of files) (reverse levels)
   pub placed : AreInFolders folder (files_of files) (reverse levels)
   pub fits : FitAll scratch files

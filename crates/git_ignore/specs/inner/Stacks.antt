@@ -1,7 +1,8 @@
 -- The stored form of a walk. No contract of the crate's public calls cites this.
 use Rattle.std.specs.Prelude.{◌≡◌, ◌≤◌, ℕ, List, [], ◌∷◌, map, length, take, drop, All}
 use Rattle.globset.specs.SetValue.{ScratchValue}
-use Rattle.git_ignore.specs.Folders.{IgnoreFile, is_below_ignored}
+use Rattle.git_ignore.specs.Folders.{IgnoreFile, files_decision}
+use Rattle.git_ignore.specs.TwoRules.{is_below_ignored}
 use Rattle.git_ignore.specs.RulesValue.{FitsRules}
 use Rattle.git_ignore.specs.StackValue.{OpenFolder}
 use Rattle.git_ignore.specs.declared.folder_rules.FolderRules.{FolderRules}
@@ -22,7 +23,7 @@ FitAll scratch files = All (λ (f : FolderRules). FitsRules scratch f.rules) fil
 pub record IsLevel (path : List ℕ) (known : List IgnoreFile) (l : FolderLevel) : Type 0 where
   pub folder : l.folder ≤ length path
   pub files : l.files ≤ length known
-  pub ignored : l.is_ignored ≡ is_below_ignored (take l.files known) (take l.folder path)
+  pub ignored : l.is_ignored ≡ is_below_ignored (files_decision (take l.files known)) (take l.folder path)
 
 -- the levels above a folder, from the nearest up
 abbrev pub AreLevels : List ℕ → List IgnoreFile → List FolderLevel → Type 0
