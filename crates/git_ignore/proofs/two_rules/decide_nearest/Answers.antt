@@ -1,6 +1,5 @@
-use Rattle.std.proofs.Common.{◌≡◌, ◌+◌, ◌-◌, ◌<◌, length, take, refl, ap, sym, ◌∙◌, arith}
+use Rattle.std.proofs.Common.{◌≡◌, ◌+◌, ◌-◌, take, refl, ap, sym, ◌∙◌, arith}
 use Rattle.std.proofs.Math.Seq.{take-length}
-use Rattle.git_ignore.specs.TwoRules.{nearest_decision}
 use Rattle.git_ignore.proofs.lemmas.TwoRules.{decision_above, folder_decides, folder_undecided, nearest_above, nearest_itself}
 use Rattle.git_ignore.proofs.two_rules.decide_nearest.Goals as goal
 

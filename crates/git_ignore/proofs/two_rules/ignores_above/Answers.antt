@@ -1,4 +1,4 @@
-use Rattle.std.proofs.Common.{◌≡◌, take, true, ap, sym, ◌∙◌}
+use Rattle.std.proofs.Common.{◌≡◌, take, ap, sym, ◌∙◌}
 use Rattle.std.proofs.lemmas.List.{take_all}
 use Rattle.git_ignore.specs.TwoRules.{ignores, is_below_ignored}
 use Rattle.git_ignore.proofs.lemmas.TwoRules.{met_ignored, passed_byte}
