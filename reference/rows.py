@@ -7,11 +7,12 @@ columns.
 import re
 
 import globs as definitions
+import relations
 from globs import Glob, Options, Rejected, ValueRejected
 
 QUESTION = {
     "read": 3, "glob": 3, "add": 3, "match": 4, "path": 2, "below": 2, "equal": 5, "offset": 3, "parts": 2, "escape": 2, "value": 2,
-    "array": 2,
+    "array": 2, "covered": 3, "overlap": 4,
 }
 
 LETTERS = {
@@ -154,6 +155,15 @@ class Case:
             return ["fails", "-" if error.index is None else str(error.index), escaped(str(error))]
         self.alone = []
         return ["reads", str(len(self.globs))]
+
+    def covered(self, domain, index):
+        others = tuple(glob for at, glob in enumerate(self.globs) if at != int(index))
+        path = relations.missed(self.globs[int(index)], others, domain)
+        return ["yes"] if path is None else ["no", str(len(path))]
+
+    def overlap(self, domain, index, other):
+        path = relations.common(self.globs[int(index)], self.globs[int(other)], domain)
+        return ["no"] if path is None else ["yes", str(len(path))]
 
 
 def expanded(row):

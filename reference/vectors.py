@@ -9,6 +9,8 @@ import large
 import making
 from globs import DEFAULTS, Glob, Options, Rejected, glob_means, reading
 from making import Source
+from related import related_globs
+from relations import TooMany, missed
 from rows import Case, escaped, letters, unescaped
 
 OPTIONS = """\
@@ -49,6 +51,17 @@ ARRAYS = """\
 #
 # Tabs separate columns. In a column a backslash is `\\\\`, and a byte that is not printable is `\\xNN`, or `\\0`, `\\t`,
 # `\\n` or `\\r`.
+"""
+RELATIONS = """\
+# An empty line ends a case: its globs, and which of them cover the others and overlap.
+#
+#   add      OPTIONS  GLOB  LENGTH    adds a glob to the case, which then has LENGTH globs
+#   covered  DOMAIN  INDEX  yes       the other globs of the case cover the one with this index
+#   covered  DOMAIN  INDEX  no  BYTES     a shortest path that it matches and none of the others does has so many bytes
+#   overlap  DOMAIN  INDEX  INDEX  no     no path is matched by both
+#   overlap  DOMAIN  INDEX  INDEX  yes  BYTES     a shortest path that both match has so many bytes
+#
+# DOMAIN is `all` for all lists of bytes, or `relative` for paths whose components are not empty, `.` or `..`, and have no NUL.
 """
 TEXTS = """\
 #   read    OPTIONS  GLOB  reads  REGEX         the text is a glob, and REGEX is what regex() of its copy returns
@@ -531,6 +544,64 @@ def command_line(source):
     return arguments
 
 
+# ---- relations.txt
+
+
+def relations(counts, source):
+    file = File(counts, "# Globs that cover a glob, and globs that overlap.\n#\n" + RELATIONS + OPTIONS)
+    for _ in range(1100):
+        globs = wanted_globs(source)
+        asked = questions_about(source, len(globs))
+        if not has_answers(globs, asked):
+            counts["cases of too many sets of states"] += 1
+            continue
+        file.end_case()
+        for glob in globs:
+            file.ask_glob("add", glob)
+        for question in asked:
+            answer = file.ask(*question)
+            counts[f"{question[0]} answers, {question[1]}: {answer[0]}"] += 1
+    return file
+
+
+def questions_about(source, count):
+    """Returns questions about so many globs."""
+    other = str(1 + source.below(count - 1))
+    asked = [["covered", "all", "0"], ["covered", "relative", "0"], ["overlap", source.pick(["all", "relative"]), "0", other]]
+    if source.chance(0.5):
+        asked.append(["covered", source.pick(["all", "relative"]), other])
+    if count > 2:
+        asked.append(["overlap", source.pick(["all", "relative"]), "1", "2"])
+    return asked
+
+
+def has_answers(globs, asked):
+    """Returns whether no walk for these questions reaches its limit."""
+    case = Case()
+    case.globs = globs
+    try:
+        for question in asked:
+            case.answer(question)
+    except TooMany:
+        return False
+    return True
+
+
+def wanted_globs(source, tries=5):
+    """Returns globs of which the others cover the first, over relative paths, or do not, as chance decides, or the last that were
+    made. Most globs that match no relative path are left out."""
+    want = source.chance(0.15)
+    for _ in range(tries):
+        globs = related_globs(source)
+        try:
+            is_empty = missed(globs[0], (), "relative") is None
+            if not is_empty and (missed(globs[0], tuple(globs[1:]), "relative") is None) == want:
+                break
+        except TooMany:
+            pass
+    return globs
+
+
 FILES = {
     "crates/replay/data/realistic.txt": realistic,
     "crates/replay/data/adversarial.txt": adversarial,
@@ -540,6 +611,7 @@ FILES = {
     "reference/commands.txt": commands,
     "crates/replay/data/large_sets.txt": large_sets,
     "crates/replay/data/many_folders.txt": many_folders,
+    "crates/replay/data/relations.txt": relations,
 }
 
 
