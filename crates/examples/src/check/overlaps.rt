@@ -26,12 +26,26 @@ pub fn common(
 
 /// Returns the one of two answers with the shorter path; one without a path only if both have none.
 fn shorter(a: Intersection, b: Intersection) -> Intersection {
-    match (a, b) {
-        (Intersection::Both(a), Intersection::Both(b)) if b.len() < a.len() => Intersection::Both(
-            b,
-        ),
-        (Intersection::Both(path), _) | (_, Intersection::Both(path)) => Intersection::Both(path),
-        (Intersection::Disjoint, Intersection::Disjoint) => Intersection::Disjoint,
-        _ => Intersection::Unknown,
+    match a {
+        Intersection::Both(path) => shorter_than(path, b),
+        Intersection::Disjoint => b,
+        Intersection::Unknown => match b {
+            Intersection::Both(path) => Intersection::Both(path),
+            Intersection::Disjoint | Intersection::Unknown => Intersection::Unknown,
+        },
+    }
+}
+
+/// Returns the answer with a path, or another answer if it has a shorter path.
+fn shorter_than(path: Vec<u8>, other: Intersection) -> Intersection {
+    match other {
+        Intersection::Both(other) => {
+            if other.len() < path.len() {
+                Intersection::Both(other)
+            } else {
+                Intersection::Both(path)
+            }
+        }
+        Intersection::Disjoint | Intersection::Unknown => Intersection::Both(path),
     }
 }
