@@ -63,7 +63,7 @@ impl<'t> OwnerRule<'t> {
     pub fn place_in_pattern(&self, offset: usize) -> usize {
         let (depth, _path) = self.depth_and_path();
         let slash = if self.pattern.starts_with('/') { 1 } else { 0 };
-        slash + offset.saturating_sub(depth.len())
+        offset.saturating_sub(depth.len()).saturating_add(slash)
     }
 }
 

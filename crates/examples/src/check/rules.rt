@@ -110,6 +110,8 @@ fn pattern_fault(
         return Err(Fault::Glob(error));
     };
     let indent = line.len() - line.trim_start().len();
-    let place = indent + OwnerRule::new(line).place_in_pattern(offset);
+    let place = OwnerRule::new(line)
+        .place_in_pattern(offset)
+        .saturating_add(indent);
     Ok(file.marked_fault(alloc, number, line.as_bytes(), place, error.kind()))
 }

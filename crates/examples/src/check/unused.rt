@@ -96,7 +96,7 @@ fn least(
     if covers(alloc, rules, rule, &[])? {
         return Ok(Vec::new(alloc));
     }
-    for (other, later) in rules.rules.iter().enumerate().skip(index + 1) {
+    for (other, later) in rules.rules.iter().enumerate().skip(index.saturating_add(1)) {
         if covers(alloc, rules, rule, rules.globs_of(*later))? {
             return Ok(Vec::from_array(alloc, [other])?);
         }
@@ -119,7 +119,7 @@ fn overlapping(
     rule: Rule<'_>,
 ) -> Result<Vec<usize>, Error> {
     let mut found = Vec::new(alloc);
-    for (other, later) in rules.rules.iter().enumerate().skip(index + 1) {
+    for (other, later) in rules.rules.iter().enumerate().skip(index.saturating_add(1)) {
         match common(alloc, rules, rule, *later)? {
             Intersection::Disjoint => {}
             _ => found.push(other)?,
