@@ -104,7 +104,7 @@ fn least(
     let mut least = overlapping(alloc, rules, index, rule)?;
     for place in (0..least.len()).rev() {
         let fewer = globs_without(alloc, rules, &least, place)?;
-        if covers(alloc, rules, rule, &fewer)? {
+        if covers(alloc, rules, rule, &fewer)? && place < least.len() {
             least.remove(place);
         }
     }
