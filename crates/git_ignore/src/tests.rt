@@ -106,10 +106,10 @@ const BY_TWO_RULES: [(&[u8], bool, Decision, Decision); 12] = [
 fn two_rules_decide(rt: HostRuntime) -> Result<(), Error> {
     let alloc = rt.alloc();
     let rules = Rules::new(alloc, TWO_RULES)?;
-    let mut scratch = IgnoreScratch::new(alloc, &rules)?;
     let mut stack = IgnoreStack::new(alloc)?;
     stack.add_file(TWO_RULES)?;
     for (row, (path, is_folder, below, nearest)) in BY_TWO_RULES.iter().enumerate() {
+        let mut scratch = IgnoreScratch::new(alloc, &rules)?;
         assert_eq!(rt;
             rules.decide_below(path, *is_folder, &mut scratch),
             *below,
