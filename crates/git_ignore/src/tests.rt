@@ -109,15 +109,8 @@ fn two_rules_decide(rt: HostRuntime) -> Result<(), Error> {
     let mut stack = IgnoreStack::new(alloc)?;
     stack.add_file(TWO_RULES)?;
     for (row, (path, is_folder, below, nearest)) in BY_TWO_RULES.iter().enumerate() {
-        let mut scratch = IgnoreScratch::new(alloc, &rules)?;
-        assert_eq!(rt;
-            rules.decide_below(path, *is_folder, &mut scratch),
-            *below,
-            "row {row}"
-        );
-        assert_eq!(rt;
-            rules.decide_nearest(path, *is_folder, &mut scratch),
-            *nearest,
+        assert!(rt;
+            rules_decide(alloc, &rules, path, *is_folder, *below, *nearest)?,
             "row {row}"
         );
         assert_eq!(rt; stack.decide(path, *is_folder)?, *below, "row {row}");
@@ -128,6 +121,21 @@ fn two_rules_decide(rt: HostRuntime) -> Result<(), Error> {
         );
     }
     Ok(())
+}
+
+/// Returns whether rules decide about a path by git's rule, and by the nearest decision, as given.
+fn rules_decide(
+    alloc: Global,
+    rules: &Rules,
+    path: &[u8],
+    is_folder: bool,
+    below: Decision,
+    nearest: Decision,
+) -> Result<bool, Error> {
+    let mut scratch = IgnoreScratch::new(alloc, rules)?;
+    let is_below = rules.decide_below(path, is_folder, &mut scratch) == below;
+    let is_nearest = rules.decide_nearest(path, is_folder, &mut scratch) == nearest;
+    Ok(is_below && is_nearest)
 }
 
 #[test]
