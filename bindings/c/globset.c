@@ -34,6 +34,8 @@ const char *globset_status_text(int status) {
         "an object is of another kind than its pointer says",
         "the error is none, so it says nothing",
         "a length or a count is larger than any array can be",
+        "a search has more rows than its limit",
+        "there is no answer of this index",
     };
     static const int count = sizeof errors / sizeof *errors;
     if (status == 1) return "the answer is yes";
@@ -51,6 +53,8 @@ static int result_of(globset_status status) {
     case GLOBSET_UNKNOWN_OPTION: return GLOBSET_EOPTIONS;
     case GLOBSET_BAD_ENDS: return GLOBSET_EOFFSETS;
     case GLOBSET_TOO_SMALL: return GLOBSET_EBUFFER;
+    case GLOBSET_LIMIT_REACHED: return GLOBSET_ELIMIT;
+    case GLOBSET_BAD_INDEX: return GLOBSET_EINDEX;
     default: return GLOBSET_EKIND;
     }
 }
@@ -456,4 +460,110 @@ void globset_searcher_free(globset_searcher *searcher) {
     globset_owned owned = own(searcher);
     globset_indexes found = {no_items, 0};
     if (searcher != NULL) free_if(globset_raw_searcher_found(&owned, &found), searcher);
+}
+
+/* ---- Questions about all paths ---- */
+
+/* Makes a handle of each glob, since a call writes the handles that it is passed. */
+static int lend_globs(const globset_glob *const *globs, size_t count, globset_lent **lents) {
+    struct rattle_block block;
+    *lents = NULL;
+    if (is_too_many(count)) return GLOBSET_ELENGTH;
+    if (globs == NULL && count > 0) return GLOBSET_ENULL;
+    for (size_t i = 0; i < count; i++)
+        if (globs[i] == NULL) return GLOBSET_ENULL;
+    /* There is room for one more, since no array may be null. */
+    block = rattle_alloc((count + 1) * sizeof **lents, sizeof(void *));
+    if (!block.ok) return GLOBSET_ENOMEM;
+    *lents = block.at;
+    for (size_t i = 0; i < count; i++) (*lents)[i] = lend(globs[i]);
+    return GLOBSET_OK;
+}
+
+int globset_covering(const globset_glob *glob, const globset_glob *const *by, size_t count, uint32_t domain,
+                     size_t limit, globset_answers **answers) {
+    globset_lent lent = lend(glob), *lents;
+    globset_owned made = own(NULL);
+    int result;
+    if (answers == NULL) return GLOBSET_ENULL;
+    *answers = NULL;
+    if (glob == NULL) return GLOBSET_ENULL;
+    result = lend_globs(by, count, &lents);
+    if (result != GLOBSET_OK) return result;
+    result = result_of(globset_raw_covering(&lent, lents, count, domain, limit, &made));
+    rattle_dealloc(lents);
+    *answers = made.at;
+    return result;
+}
+
+int globset_overlap(const globset_glob *a, const globset_glob *b, uint32_t domain, size_t limit,
+                    globset_answers **answers) {
+    globset_lent lent_a = lend(a), lent_b = lend(b);
+    globset_owned made = own(NULL);
+    globset_status status;
+    if (answers == NULL) return GLOBSET_ENULL;
+    *answers = NULL;
+    if (a == NULL || b == NULL) return GLOBSET_ENULL;
+    status = globset_raw_overlap(&lent_a, &lent_b, domain, limit, &made);
+    *answers = made.at;
+    return result_of(status);
+}
+
+int globset_unreachable(const globset_glob *const *globs, size_t count, uint32_t decides, uint32_t domain, size_t limit,
+                        globset_answers **answers) {
+    globset_lent *lents;
+    globset_owned made = own(NULL);
+    int result;
+    if (answers == NULL) return GLOBSET_ENULL;
+    *answers = NULL;
+    result = lend_globs(globs, count, &lents);
+    if (result != GLOBSET_OK) return result;
+    result = result_of(globset_raw_unreachable(lents, count, decides, domain, limit, &made));
+    rattle_dealloc(lents);
+    *answers = made.at;
+    return result;
+}
+
+/* Reads the answer of an index. */
+static globset_status read_answer(globset_answers *answers, size_t index, globset_bytes *path,
+                                  globset_indexes *indexes) {
+    globset_owned owned = own(answers);
+    path->at = (const uint8_t *)no_items;
+    path->count = 0;
+    indexes->at = no_items;
+    indexes->count = 0;
+    return globset_raw_answers_at(&owned, index, path, indexes);
+}
+
+int globset_answers_has_path(globset_answers *answers, size_t index, const char **path, size_t *length) {
+    globset_bytes found;
+    globset_indexes indexes;
+    globset_status status;
+    if (path != NULL) *path = NULL;
+    if (length != NULL) *length = 0;
+    if (answers == NULL) return GLOBSET_ENULL;
+    status = read_answer(answers, index, &found, &indexes);
+    if (status == GLOBSET_YES && path != NULL) *path = (const char *)found.at;
+    if (status == GLOBSET_YES && length != NULL) *length = found.count;
+    return result_of(status);
+}
+
+int globset_answers_indexes(globset_answers *answers, size_t index, const size_t **indexes, size_t *count) {
+    globset_bytes path;
+    globset_indexes found;
+    globset_status status;
+    if (indexes != NULL) *indexes = NULL;
+    if (count != NULL) *count = 0;
+    if (answers == NULL || indexes == NULL || count == NULL) return GLOBSET_ENULL;
+    status = read_answer(answers, index, &path, &found);
+    if (status != GLOBSET_YES && status != GLOBSET_NO) return result_of(status);
+    *indexes = found.at;
+    *count = found.count;
+    return GLOBSET_OK;
+}
+
+void globset_answers_free(globset_answers *answers) {
+    globset_bytes path;
+    globset_indexes indexes;
+    if (answers != NULL && read_answer(answers, 0, &path, &indexes) != GLOBSET_WRONG_KIND) free_object(answers);
 }

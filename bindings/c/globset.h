@@ -1,25 +1,25 @@
-/* globset.h: sets of globs, which tell the paths that match patterns such as "*.c" or "src/lib?.{c,h}".
+/* globset.h: sets of globs, which match paths against patterns such as "*.c" or "src/lib?.{c,h}".
  *
  * globset_set_new makes a set of many texts, globset_searcher_new makes a searcher of the set, and
- * globset_searcher_is_match asks it about a path. The file example.c, which comes with the library, is a whole program.
+ * globset_searcher_is_match matches a path with it. The file example.c, which comes with the library, is a whole program.
  * These functions are made by globset.c, which calls those of globset_raw.h. The latter are proved; globset.c and the
  * bridge to malloc are tested.
  *
  * Objects. A glob is a text that was read, with its options. A set has many globs and is ready to match. A searcher is
  * a set with the memory that one thread needs to match, and a matcher is the same for one glob. A builder takes globs
- * one by one and makes a set of them. Each object is made by a function that writes a pointer to it, and freed once, by
- * the `_free` of its kind, which does nothing with an object of another kind. An object keeps what it needs of those
- * that it was made of: they may be freed before it.
+ * one by one and makes a set of them. Answers are what a question about all paths found. Each object is made by a
+ * function that writes a pointer to it, and freed once, by the `_free` of its kind, which does nothing with an object of
+ * another kind. An object keeps what it needs of those that it was made of: they may be freed before it.
  *
- * Results. A function whose name has `is_match`, `matches_all` or `can_match` answers a question: it returns 1 for yes
- * and 0 for no. Each other function with a result returns GLOBSET_OK, which is 0, if it did what it is for. An error is
- * below 0, and globset_status_text says what it means. A program compares an answer with 1, as in
+ * Results. A function whose name has `is_match`, `matches_all`, `can_match` or `has_path` answers a question: it returns
+ * 1 for yes and 0 for no. Each other function with a result returns GLOBSET_OK, which is 0, if it did what it is for.
+ * An error is below 0, and globset_status_text says what it means. A program compares an answer with 1, as in
  * `if (globset_set_is_match(..) == 1)`, since an error alone counts as true, and any other result with GLOBSET_OK. After
  * an error no object was made, and the pointer to it is null. Every object holds what it held before the call, and can
  * still be used.
  *
- * Null. Each `_free` accepts null and does nothing. Where `error`, `index` or `length` points to a result, it may be
- * null, and then the result is not written. Bytes and arrays may be null if they have no members. Any other null
+ * Null. Each `_free` accepts null and does nothing. Where `error`, `index`, `path` or `length` points to a result, it may
+ * be null, and then the result is not written. Bytes and arrays may be null if they have no members. Any other null
  * pointer ends in GLOBSET_ENULL.
  *
  * Bytes. Texts and paths are bytes with a length, and may have NULs inside. The length GLOBSET_ZERO_TERMINATED stands
@@ -32,8 +32,8 @@
  * 0. With size 0 the buffer may be null.
  *
  * Threads. A function that takes a pointer to const only reads the object, so any number of threads may call such
- * functions on one glob or set at once. A builder, a searcher or a matcher belongs to one thread at a time: it may go
- * to another thread if what the first one did with it comes before, by a lock, or by the start or the end of a thread.
+ * functions on one glob or set at once. Each other object belongs to one thread at a time: it may go to another thread
+ * if what the first one did with it comes before, by a lock, or by the start or the end of a thread.
  * So each thread makes a searcher of its own, of one set.
  *
  * The caller promises: an object is one that a function of this header made, and that was not freed; bytes and arrays
@@ -86,6 +86,7 @@ typedef struct globset_set globset_set;
 typedef struct globset_searcher globset_searcher;
 typedef struct globset_matcher globset_matcher;
 typedef struct globset_builder globset_builder;
+typedef struct globset_answers globset_answers;
 
 /* ---- Globs ---- */
 
@@ -94,9 +95,9 @@ typedef struct globset_builder globset_builder;
  *
  *     ?                             any one byte
  *     *                             any bytes, or none; also `/`
- *     ** and a / at the start       any folders, or none
- *     a / and ** at the end         everything in a folder
- *     a / and ** and a / within     a `/`, and any folders after it
+ *     ** and a / at the start       any directories, or none
+ *     a / and ** at the end         everything in a directory
+ *     a / and ** and a / within     a `/`, and any directories after it
  *     ** alone                      every path
  *     {a,b}                         `a` or `b`, which are globs; braces nest
  *     [ab], [a-z]                   one byte of the class, also `/`
@@ -114,12 +115,14 @@ enum {
     GLOBSET_ENOMEM = -2,   /* memory ran out */
     GLOBSET_EGLOB = -3,    /* a text is no glob: `error` says why */
     GLOBSET_EUTF8 = -4,    /* the text is not UTF-8 */
-    GLOBSET_EOPTIONS = -5, /* the options have a bit that is none of those below */
+    GLOBSET_EOPTIONS = -5, /* the options have a bit that is none of those below, or a domain or a choice is none */
     GLOBSET_EOFFSETS = -6, /* an end offset is below the one before it, or beyond the bytes */
     GLOBSET_EBUFFER = -7,  /* the buffer is too small */
     GLOBSET_EKIND = -8,    /* an object is of another kind than its pointer says, as after a cast */
     GLOBSET_ENONE = -9,    /* the error is none: its kind is none of those below */
-    GLOBSET_ELENGTH = -10  /* a length, a size or a count is larger than any array can be, as -1 is */
+    GLOBSET_ELENGTH = -10, /* a length, a size or a count is larger than any array can be, as -1 is */
+    GLOBSET_ELIMIT = -11,  /* a search has more rows than its limit */
+    GLOBSET_EINDEX = -12   /* there is no answer of this index */
 };
 
 /* Returns what a result means, for people: "memory ran out" and the like. The text is static and never null. */
@@ -147,7 +150,7 @@ enum {
 };
 
 /* The error of a text. `start` and `end` are the characters (code points) of an invalid range, and 0 at other kinds.
- * `offset` is the byte of the text at which the error stands, from 0: that of the `[` of an unclosed class or of one
+ * `offset` is the byte of the text where the error stands, from 0: that of the `[` of an unclosed class or of one
  * with an invalid range, of a `}` that closes nothing, of the last `\`, or of the outermost `{` that is open at the end
  * of the text. A function that can write an error writes all of it: where the result is not GLOBSET_EGLOB, each member
  * is 0. No member is added in one interface. */
@@ -195,7 +198,7 @@ void globset_set_free(globset_set *set);
  * states. GLOBSET_ENOMEM. */
 GLOBSET_CHECKED int globset_searcher_new(const globset_set *set, globset_searcher **searcher);
 
-/* Returns whether some glob of the set matches the path. This takes no memory, and cannot fail but for null and for an
+/* Returns whether some glob of the set matches the path. It does not allocate, and fails only for null and for an
  * object that is no searcher. */
 GLOBSET_CHECKED int globset_searcher_is_match(globset_searcher *searcher, const char *path, size_t length);
 
@@ -208,9 +211,8 @@ GLOBSET_CHECKED int globset_searcher_matches_all(globset_searcher *searcher, con
 GLOBSET_CHECKED int globset_searcher_find(globset_searcher *searcher, const char *path, size_t length,
                                           const size_t **indexes, size_t *count);
 
-/* Returns whether some glob of the set matches some path below the folder, which is the folder, a `/`, and any bytes,
- * perhaps none. A program that walks over folders need not open one for which the answer is 0. It fails only as
- * globset_searcher_is_match does. */
+/* Returns whether some glob of the set matches some path below the directory: the directory, a `/`, and any bytes, perhaps
+ * none. A walk need not open a directory whose answer is 0. It fails only as globset_searcher_is_match does. */
 GLOBSET_CHECKED int globset_searcher_can_match_below(globset_searcher *searcher, const char *folder, size_t length);
 
 /* Asks globset_searcher_is_match of `count` paths. `paths` has the bytes of all, one path behind another, and `length`
@@ -256,8 +258,8 @@ void globset_glob_free(globset_glob *glob);
 /* Makes a matcher of a glob, with all the memory that its questions need. GLOBSET_ENOMEM. */
 GLOBSET_CHECKED int globset_matcher_new(const globset_glob *glob, globset_matcher **matcher);
 
-/* Returns whether the glob matches the path. This takes no memory, and cannot fail but for null and for an object that
- * is no matcher. */
+/* Returns whether the glob matches the path. It does not allocate, and fails only for null and for an object that is
+ * no matcher. */
 GLOBSET_CHECKED int globset_matcher_is_match(globset_matcher *matcher, const char *path, size_t length);
 
 void globset_matcher_free(globset_matcher *matcher);
@@ -279,11 +281,60 @@ GLOBSET_CHECKED int globset_builder_add(globset_builder *builder, const globset_
  * may take more time. With 0 there are no rows. */
 GLOBSET_CHECKED int globset_builder_set_dfa_size_limit(globset_builder *builder, size_t bytes);
 
-/* Makes the set of the builder's globs, in the order in which they were added: the first has index 0. Then the builder
+/* Makes the set of the builder's globs, in the order of their additions: the first has index 0. Then the builder
  * has no globs, and can be used for another set. GLOBSET_ENOMEM. */
 GLOBSET_CHECKED int globset_builder_build(globset_builder *builder, globset_set **set);
 
 void globset_builder_free(globset_builder *builder);
+
+/* ---- Questions about all paths ---- */
+
+/* These questions are about all paths of a domain at once, and globs match in them as their matchers do. A search goes
+ * from the start of a path on, over rows: a row is a set of states of the globs, and a place in the domain. Paths may
+ * lead to exponentially many rows, so each search has a limit on them, such as 100000. If there are more, the answer is
+ * not known. Memory is at most linear in the rows, times the states of the globs. */
+
+/* The domains. */
+enum {
+    GLOBSET_ALL_PATHS = 0,     /* all lists of bytes */
+    GLOBSET_RELATIVE_PATHS = 1 /* components with a `/` between them; none is empty, `.` or `..`, or has a NUL */
+};
+
+/* Which of the globs of a list that match a path decides about it. */
+enum { GLOBSET_FIRST_DECIDES = 0, GLOBSET_LAST_DECIDES = 1 };
+
+/* Finds out whether each path of the domain that the glob matches is matched by some of `count` other globs. GLOBSET_OK:
+ * the answer of index 0 has a shortest path that they miss, if there is one. GLOBSET_EOPTIONS, GLOBSET_ENOMEM. */
+GLOBSET_CHECKED int globset_covering(const globset_glob *glob, const globset_glob *const *by, size_t count,
+                                     uint32_t domain, size_t limit, globset_answers **answers);
+
+/* Finds out whether two globs match some path of the domain in common. GLOBSET_OK: the answer of index 0 has a shortest
+ * path that both match, if there is one. GLOBSET_EOPTIONS, GLOBSET_ENOMEM. */
+GLOBSET_CHECKED int globset_overlap(const globset_glob *a, const globset_glob *b, uint32_t domain, size_t limit,
+                                    globset_answers **answers);
+
+/* Finds out for each of `count` globs, of which the first or the last that matches a path decides about it, whether it
+ * ever decides about a path of the domain. GLOBSET_OK: the answer of its index has a shortest path about which it
+ * decides, if there is one, and otherwise the indexes of globs that cover it. Each search has the limit.
+ * GLOBSET_EOPTIONS, GLOBSET_ENOMEM. */
+GLOBSET_CHECKED int globset_unreachable(const globset_glob *const *globs, size_t count, uint32_t decides,
+                                        uint32_t domain, size_t limit, globset_answers **answers);
+
+/* Returns whether the answer of an index has a path. Then `path` points to its `length` bytes, which no NUL follows and
+ * which may be read until the next call that the answers are passed to; otherwise `path` is null and `length` is 0.
+ * GLOBSET_ELIMIT: it is not known whether there is a path, since a search had more rows than its limit. GLOBSET_EINDEX.
+ * It takes no memory. */
+GLOBSET_CHECKED int globset_answers_has_path(globset_answers *answers, size_t index, const char **path, size_t *length);
+
+/* Finds the globs that an answer of globset_unreachable names. GLOBSET_OK: `indexes` points to their indexes, and `count`
+ * says how many they are: the globs cover the glob of the answer together, and none of them can be left out. It is one
+ * if some glob covers it alone. There are none if the glob matches no path of the domain, or if the answer has a path.
+ * They may be read until the next call that the answers are passed to. GLOBSET_ELIMIT, GLOBSET_EINDEX, and then `indexes`
+ * is null and `count` is 0. It takes no memory. */
+GLOBSET_CHECKED int globset_answers_indexes(globset_answers *answers, size_t index, const size_t **indexes,
+                                            size_t *count);
+
+void globset_answers_free(globset_answers *answers);
 
 /* ---- Versions ---- */
 

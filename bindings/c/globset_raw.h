@@ -3,11 +3,11 @@
  *
  * The functions are written in Rattle. Each has a contract that the checker proves: it says what the function returns
  * and leaves if its caller keeps the promises below. Parameters are pointers, lengths and structs of one pointer, and
- * no pointer is null. The bits of options, the kinds of errors and the two numbers of the version are those of
- * globset.h.
+ * no pointer is null. The bits of options, the kinds of errors, the domains, which match decides and the two numbers of
+ * the version are those of globset.h.
  *
- * Objects. A glob, a matcher, a builder, a set, a work and a searcher are objects on the heap. A handle is a struct of
- * one pointer.
+ * Objects. A glob, a matcher, a builder, a set, a work, a searcher and answers are objects on the heap. A handle is a
+ * struct of one pointer.
  *
  *  - Who has an object *owns* it: `globset_owned`. An owned object is in one call at a time. It is freed once, by
  *    `globset_raw_free`, and its handle is not used after that. It may go to another thread, which then uses and frees
@@ -46,8 +46,8 @@
  * it keeps nothing of its arguments but what is said below. Running out of memory is the status GLOBSET_OUT_OF_MEMORY;
  * all objects then hold what they held before the call, but that a work may have grown, and can be used on. The status
  * GLOBSET_WRONG_KIND comes exactly if an object is of another kind than the call asks for, and all objects are then as
- * they were; where a call takes ends of paths, these are looked at first. After any status but GLOBSET_DONE, GLOBSET_NO
- * and GLOBSET_YES no new object was made, and each result that has no sentence of its own is as it was.
+ * they were; where a call takes ends of paths or a domain, these are looked at first. After any status but GLOBSET_DONE,
+ * GLOBSET_NO and GLOBSET_YES no new object was made, and each result that has no sentence of its own is as it was.
  */
 #ifndef GLOBSET_RAW_H
 #define GLOBSET_RAW_H
@@ -69,10 +69,12 @@ enum {
     GLOBSET_OUT_OF_MEMORY = 3,  /* memory ran out */
     GLOBSET_REJECTED = 4,       /* the text is no glob: it has an error */
     GLOBSET_NOT_UTF8 = 5,       /* the text is not UTF-8 */
-    GLOBSET_UNKNOWN_OPTION = 6, /* the options have a bit that is none of those of globset.h */
+    GLOBSET_UNKNOWN_OPTION = 6, /* globset.h has no such bit of options, or no such domain or choice */
     GLOBSET_WRONG_KIND = 7,     /* an object is not of the kind that is asked for, as a glob in place of a set */
     GLOBSET_BAD_ENDS = 8,       /* an end of a path is below the one before it, or beyond the bytes, or has no answer */
-    GLOBSET_TOO_SMALL = 9       /* the text is longer than the room for it, or the indexes are more */
+    GLOBSET_TOO_SMALL = 9,      /* the text is longer than the room for it, or the indexes are more */
+    GLOBSET_LIMIT_REACHED = 10, /* a search has more rows than its limit */
+    GLOBSET_BAD_INDEX = 11      /* there is no answer of this index */
 };
 
 /* ---- Types ---- */
@@ -87,8 +89,15 @@ typedef struct globset_lent {
     const void *at;
 } globset_lent;
 
-/* Indexes that a work or a searcher lends. Before a call that writes them they have to be valid: with the count 0 `at`
- * is any address of a size_t. */
+/* Bytes that answers lend. Before a call that writes them they have to be valid: with the count 0 `at` is any address
+ * of a byte. */
+typedef struct globset_bytes {
+    const uint8_t *at;
+    size_t count;
+} globset_bytes;
+
+/* Indexes that a work, a searcher or answers lend. Before a call that writes them they have to be valid: with the count
+ * 0 `at` is any address of a size_t. */
 typedef struct globset_indexes {
     const size_t *at;
     size_t count;
@@ -173,8 +182,8 @@ globset_status globset_raw_set_matches_all_plain(globset_lent *set, const uint8_
 globset_status globset_raw_set_matches_plain(globset_lent *set, const uint8_t *path, size_t path_len, size_t *room,
                                              size_t room_len, size_t *needed);
 
-/* Whether some glob of the set matches some path below the folder, as globset_raw_searcher_can_match_below. It ends in
- * the statuses of globset_raw_set_is_match_plain. */
+/* Whether some glob of the set matches some path below the directory, as globset_raw_searcher_can_match_below. It ends
+ * in the statuses of globset_raw_set_is_match_plain. */
 globset_status globset_raw_set_can_match_below_plain(globset_lent *set, const uint8_t *folder, size_t folder_len);
 
 /* Makes a work. It fits a set without globs, and is grown as it is used. GLOBSET_DONE, GLOBSET_OUT_OF_MEMORY. */
@@ -258,8 +267,8 @@ globset_status globset_raw_searcher_matches_many(globset_owned *searcher, const 
                                                  const size_t *ends, size_t ends_len, size_t *index_ends,
                                                  size_t index_ends_len, size_t *room, size_t room_len, size_t *needed);
 
-/* Whether some glob of the searcher's set matches some path below the folder, which is the folder, a `/`, and any
- * bytes, perhaps none: GLOBSET_YES or GLOBSET_NO. A walk over folders need not open one that is answered by GLOBSET_NO.
+/* Whether some glob of the searcher's set matches some path below the directory: the directory, a `/`, and any
+ * bytes, perhaps none: GLOBSET_YES or GLOBSET_NO. A walk need not open a directory whose answer is GLOBSET_NO.
  * Otherwise as globset_raw_searcher_is_match. */
 globset_status globset_raw_searcher_can_match_below(globset_owned *searcher, const uint8_t *folder, size_t folder_len);
 
@@ -267,6 +276,36 @@ globset_status globset_raw_searcher_can_match_below(globset_owned *searcher, con
  * if its options are the default and the text has no `\`. GLOBSET_DONE and GLOBSET_TOO_SMALL as at
  * globset_raw_error_text. GLOBSET_NOT_UTF8, GLOBSET_OUT_OF_MEMORY. */
 globset_status globset_raw_escape(const uint8_t *text, size_t text_len, uint8_t *room, size_t room_len, size_t *needed);
+
+/* Decides whether globs cover a glob: whether some of the globs `by` matches each path of the domain that the glob
+ * matches. Each element of the array is the handle of one glob, and several may be of the same. The globs are copied.
+ * Globs match as their matchers do. GLOBSET_DONE: `out` owns the answer, which has the index 0. Its path is a shortest
+ * path of the domain that the glob matches and none of the others does. If they cover the glob, there is no path, and
+ * there are no indexes. Otherwise paths lead to more than `limit` rows, of which globset.h says what they are.
+ * GLOBSET_UNKNOWN_OPTION: there is no such domain. GLOBSET_WRONG_KIND, GLOBSET_OUT_OF_MEMORY. */
+globset_status globset_raw_covering(globset_lent *glob, globset_lent *by, size_t by_len, uint32_t domain, size_t limit,
+                                    globset_owned *out);
+
+/* Decides whether two globs match some path in common. GLOBSET_DONE: `out` owns the answer, which has the index 0. Its
+ * path is a shortest path of the domain that both match. If they match none in common, there is no path, and there are
+ * no indexes. Otherwise as globset_raw_covering. */
+globset_status globset_raw_overlap(globset_lent *a, globset_lent *b, uint32_t domain, size_t limit, globset_owned *out);
+
+/* Decides for each glob of a list whether it ever decides: whether it matches a path of the domain that no glob before
+ * it matches, or no glob after it if the last match decides. GLOBSET_DONE: `out` owns an answer for each glob, in their
+ * order. Its path is a shortest path of that kind. If there is none, the indexes are those of such globs that cover the
+ * glob together: without any of them they do not, and there are several only if none covers it alone.
+ * GLOBSET_UNKNOWN_OPTION: there is no such choice, or no such domain. Otherwise as globset_raw_covering. */
+globset_status globset_raw_unreachable(globset_lent *globs, size_t globs_len, uint32_t decides, uint32_t domain,
+                                       size_t limit, globset_owned *out);
+
+/* Lends what the answer of an index tells. It takes no memory. GLOBSET_YES: there is a path, which is in `path`.
+ * GLOBSET_NO: there is none, and `indexes` has the indexes. GLOBSET_LIMIT_REACHED: the search had more rows than its
+ * limit. GLOBSET_BAD_INDEX: there is no such answer. GLOBSET_WRONG_KIND: the object is no answers. `path` has the count
+ * 0 after each status but GLOBSET_YES, and `indexes` after each but GLOBSET_NO. Both may be read until the next call
+ * that the answers are passed to, globset_raw_free too. The caller writes nothing there. */
+globset_status globset_raw_answers_at(globset_owned *answers, size_t index, globset_bytes *path,
+                                      globset_indexes *indexes);
 
 /* Frees an object of any kind. The caller owns it, it is lent to nobody, and what it lends is not read any more. */
 void globset_raw_free(globset_owned object);

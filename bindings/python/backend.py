@@ -1,9 +1,9 @@
 """Builds the module globset for pip and other builders, by the interface of PEP 517. `pyproject.toml` names it.
 
 A wheel has the extension module where this Python is 3.10 or later and a C compiler and Python.h are there, and otherwise the
-shared library, which is called by ctypes. The C library is looked for in the folder that GLOBSET_LIB_DIR names, in `lib` beside
-this file, where a source distribution has it, in bindings/out, where `bindings/build` puts it, and in crates/globset_c/out,
-where `rt lib` puts its archive.
+shared library, which is called by ctypes. The C library is looked for in the directory that GLOBSET_LIB_DIR names, in `lib`
+beside this file, where a source distribution has it, in bindings/out, where `bindings/build` puts it, and in
+crates/globset_c/out, where `rt lib` puts its archive.
 """
 
 import gzip
@@ -22,17 +22,20 @@ import build_wheel as wheels  # noqa: E402
 HERE, TOP = wheels.HERE, wheels.TOP
 ARCHIVE = f"{TOP}/crates/globset_c/out/libglobset_c.a"
 # What a source distribution has beside the module, the licences and the library.
-SOURCES = ("pyproject.toml", "backend.py", "build_extension.py", "build_wheel.py", "README.md", "globset/_extension.c")
+SOURCES = (
+    *("pyproject.toml", "backend.py", "build_extension.py", "build_wheel.py", "README.md"),
+    *("globset/_extension.c", "globset/_relations.h"),
+)
 LIBRARY = ("libglobset.a", "libglobset.so", "globset.h", "globset_raw.h", "NOTICE")
 
 MISSING = f"""globset: the C library is not there. One of these gives it:
 - in a clone of the repository, with its toolchain: {TOP}/bindings/build
-- the variable GLOBSET_LIB_DIR, with the folder that has libglobset.a, libglobset.so, globset.h, globset_raw.h and NOTICE
-- a release, whose folder `python` has wheels, and a source distribution with the library inside"""
+- the variable GLOBSET_LIB_DIR, with the directory that has libglobset.a, libglobset.so, globset.h, globset_raw.h and NOTICE
+- a release, whose directory `python` has wheels, and a source distribution with the library inside"""
 
 
 def _library(room):
-    """Returns the folder of the C library, which is built in the folder `room` if only its archive is there."""
+    """Returns the directory of the C library, which is built in the directory `room` if only its archive is there."""
     given = os.environ.get("GLOBSET_LIB_DIR")
     folders = [given] if given else [f"{HERE}/lib", f"{TOP}/bindings/out"]
     for folder in folders:
@@ -59,7 +62,7 @@ def _built(library, room):
 
 
 def build_wheel(wheel_directory, config_settings=None, metadata_directory=None):
-    """Makes a wheel in a folder, and returns its name."""
+    """Makes a wheel in a directory, and returns its name."""
     with tempfile.TemporaryDirectory() as c, tempfile.TemporaryDirectory() as room:
         return wheels.make(_built(_library(c), room), wheel_directory)
 
@@ -76,7 +79,7 @@ def _contents(library):
 
 
 def build_sdist(sdist_directory, config_settings=None):
-    """Makes a source distribution in a folder, and returns its name. Its bytes follow from its files and SOURCE_DATE_EPOCH."""
+    """Makes a source distribution in a directory, and returns its name. Its files and SOURCE_DATE_EPOCH decide its bytes."""
     top = f"globset-{wheels.version()}"
     moment = int(os.environ.get("SOURCE_DATE_EPOCH", "315532800"))
     with tempfile.TemporaryDirectory() as room:

@@ -4,8 +4,8 @@
 Usage: build_extension.py LIBRARY FOLDER
        build_extension.py --check
 
-LIBRARY is the folder that bindings/c/build filled, and libglobset.a in it is linked in. FOLDER is where the extension module is
-put, with the file NOTICE beside it. It needs a C compiler (CC, else cc) and the header Python.h of Python 3.10 or later, of this
+LIBRARY is the directory that bindings/c/build filled, and libglobset.a in it is linked in. FOLDER gets the extension module and
+the file NOTICE. It needs a C compiler (CC, else cc) and the header Python.h of Python 3.10 or later, of this
 Python or of one in /usr/include. CFLAGS are more arguments for the compiler. With --check the exit status says whether the
 header is there.
 
@@ -29,7 +29,7 @@ CLASSES = {"GlobBase": "GLOB", "GlobSetBase": "SET"}
 
 
 def include():
-    """Returns the folder of the newest header Python.h that is there."""
+    """Returns the directory of the newest header Python.h that is there."""
     version = sys.version_info[:2]
     folders = [(version, sysconfig.get_path("include"))]
     for folder in glob.glob("/usr/include/python3.*"):
@@ -67,7 +67,7 @@ def macros(tree):
 
 
 def build(library, folder):
-    """Builds the extension module into a folder."""
+    """Builds the extension module into a directory."""
     headers = include()
     with open(f"{HERE}/globset/_by_ctypes.py", encoding="utf-8") as file:
         tree = ast.parse(file.read())

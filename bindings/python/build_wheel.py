@@ -3,7 +3,7 @@
 
 Usage: build_wheel.py LIBRARY FOLDER
 
-LIBRARY is what the wheel holds beside the module, with the file NOTICE in the same folder: the extension module
+LIBRARY is what the wheel holds beside the module, with the file NOTICE in the same directory: the extension module
 _extension.abi3.so, for a wheel for Python 3.10 and later, or the shared library libglobset.so, for one for Python 3.8 and later.
 FOLDER is where the wheel is put. The same files give the same wheel, byte by byte; its files have the time SOURCE_DATE_EPOCH, or
 1980. It needs `readelf`, to find what the library needs of the C library, and nothing else beside Python.
@@ -20,7 +20,7 @@ import zipfile
 
 HERE = os.path.dirname(os.path.realpath(__file__))
 TOP = os.path.dirname(os.path.dirname(HERE))
-MODULE = ("__init__.py", "_by_ctypes.py", "_choice.py", "_errors.py", "_library.py", "_walk.py", "py.typed")
+MODULE = ("__init__.py", "_by_ctypes.py", "_choice.py", "_errors.py", "_library.py", "_walk.py", "py.typed", "relations.py")
 EXTENSION = "_extension.abi3.so"
 # The least Python and the tag of a wheel with the extension module, and of one without it.
 WITH_EXTENSION, WITHOUT = (("3.10", "cp310-abi3"), ("3.8", "py3-none"))
@@ -129,7 +129,7 @@ def write(path, contents):
 
 
 def make(library, folder):
-    """Makes the wheel of a library in a folder, and returns its name."""
+    """Makes the wheel of a library in a directory, and returns its name."""
     least, python = WITH_EXTENSION if name_of(library) == EXTENSION else WITHOUT
     systems = platforms(library)
     contents = files(library, least, [f"{python}-{system}" for system in systems])

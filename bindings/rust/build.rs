@@ -1,7 +1,7 @@
 //! Finds the C library, and tells the linker.
 //!
-//! The library is `libglobset.a` in the folder that the environment variable `GLOBSET_LIB_DIR` names, or else in the folder
-//! `lib` beside `Cargo.toml`, where a release has it, or in `../out`, where `bindings/build` of the repository puts it.
+//! The library is `libglobset.a` in the directory that the environment variable `GLOBSET_LIB_DIR` names, or else in `lib` beside
+//! `Cargo.toml`, where a release has it, or in `../out`, where `bindings/build` of the repository puts it.
 
 use std::{env, fs, path::Path, path::PathBuf, process};
 
@@ -18,7 +18,7 @@ fn main() {
     if !library.is_file() {
         fail(&format!(
             "there is no file {}. Run the command bindings/build in a clone of the repository, or set GLOBSET_LIB_DIR to the \
-             folder that has libglobset.a, or take the crate of a release, which has it.",
+             directory that has libglobset.a, or take the crate of a release, which has it.",
             library.display()
         ));
     }
@@ -27,7 +27,7 @@ fn main() {
     println!("cargo:rustc-link-lib=static=globset");
 }
 
-/// The folder that should have the library. A folder that `GLOBSET_LIB_DIR` names by a relative path is one of this crate's.
+/// The directory that should have the library. A relative path in `GLOBSET_LIB_DIR` begins in the directory of this crate.
 fn folder() -> PathBuf {
     let manifest = PathBuf::from(env::var_os("CARGO_MANIFEST_DIR").expect("cargo sets CARGO_MANIFEST_DIR"));
     match env::var_os("GLOBSET_LIB_DIR") {

@@ -95,6 +95,38 @@ static void try_searcher(const globset_set *set) {
     globset_searcher_free(searcher);
 }
 
+/* The globs are as they were. Answers are read without memory. */
+static void try_relations(void) {
+    globset_glob *made[GLOBS];
+    const globset_glob *those[GLOBS];
+    globset_answers *answers;
+    const char *path;
+    const size_t *indexes;
+    size_t length, count;
+    for (int i = 0; i < GLOBS; i++) CHECK(globset_glob_new(TEXT(globs[i]), 0, NULL, &made[i]) == GLOBSET_OK);
+    for (int i = 0; i < GLOBS; i++) those[i] = made[i];
+    TRY(globset_covering(made[0], those, GLOBS, GLOBSET_RELATIVE_PATHS, 1000, &answers), GLOBSET_OK,
+        CHECK(answers == NULL && blocks == before));
+    left = 0;
+    CHECK(globset_answers_has_path(answers, 0, &path, &length) == 0);
+    left = -1;
+    globset_answers_free(answers);
+    TRY(globset_overlap(made[0], made[5], GLOBSET_RELATIVE_PATHS, 1000, &answers), GLOBSET_OK,
+        CHECK(answers == NULL && blocks == before));
+    left = 0;
+    CHECK(globset_answers_has_path(answers, 0, &path, &length) == 1 && length == 1 && path[0] == 'a');
+    left = -1;
+    globset_answers_free(answers);
+    TRY(globset_unreachable(those, GLOBS, GLOBSET_LAST_DECIDES, GLOBSET_ALL_PATHS, 1000, &answers), GLOBSET_OK,
+        CHECK(answers == NULL && blocks == before));
+    left = 0;
+    CHECK(globset_answers_has_path(answers, 0, &path, &length) == 0 && path == NULL);
+    CHECK(globset_answers_indexes(answers, 0, &indexes, &count) == GLOBSET_OK && count == 1 && indexes[0] == 5);
+    left = -1;
+    globset_answers_free(answers);
+    for (int i = 0; i < GLOBS; i++) globset_glob_free(made[i]);
+}
+
 /* How many bytes were asked for while a set was made that keeps at most so many bytes of rows. */
 static size_t bytes_of_set(size_t limit) {
     globset_builder *builder;
@@ -120,6 +152,7 @@ int main(void) {
     globset_set *set = try_set();
     try_searcher(set);
     globset_set_free(set);
+    try_relations();
     CHECK(blocks == 0);
     CHECK(failures > 0);
     printf("memory: passed, %ld failures of allocations\n", failures);

@@ -8,6 +8,7 @@ static void frees(void) {
     globset_builder_free(NULL);
     globset_set_free(NULL);
     globset_searcher_free(NULL);
+    globset_answers_free(NULL);
 }
 
 /* A cleanup that frees all that a function made, whether it was made or not. */
@@ -136,6 +137,32 @@ static void many(void) {
     globset_searcher_free(searcher);
 }
 
+static void relations(void) {
+    globset_glob *glob = glob_of("a", 0);
+    const globset_glob *const globs[2] = {glob, NULL};
+    globset_answers *answers = (globset_answers *)glob;
+    const char *path = "x";
+    const size_t *indexes = (const size_t *)&path;
+    size_t count = 7;
+    CHECK(globset_covering(NULL, globs, 1, 0, 9, &answers) == GLOBSET_ENULL && answers == NULL);
+    CHECK(globset_covering(glob, NULL, 1, 0, 9, &answers) == GLOBSET_ENULL && answers == NULL);
+    CHECK(globset_covering(glob, globs, 2, 0, 9, &answers) == GLOBSET_ENULL && answers == NULL);
+    CHECK(globset_covering(glob, globs, 1, 0, 9, NULL) == GLOBSET_ENULL);
+    CHECK(globset_overlap(NULL, glob, 0, 9, &answers) == GLOBSET_ENULL && answers == NULL);
+    CHECK(globset_overlap(glob, NULL, 0, 9, &answers) == GLOBSET_ENULL && answers == NULL);
+    CHECK(globset_overlap(glob, glob, 0, 9, NULL) == GLOBSET_ENULL);
+    CHECK(globset_unreachable(NULL, 1, 0, 0, 9, &answers) == GLOBSET_ENULL && answers == NULL);
+    CHECK(globset_unreachable(globs, 2, 0, 0, 9, &answers) == GLOBSET_ENULL && answers == NULL);
+    CHECK(globset_unreachable(globs, 1, 0, 0, 9, NULL) == GLOBSET_ENULL);
+    CHECK(globset_answers_has_path(NULL, 0, &path, &count) == GLOBSET_ENULL && path == NULL && count == 0);
+    CHECK(globset_answers_indexes(NULL, 0, &indexes, &count) == GLOBSET_ENULL && indexes == NULL);
+    CHECK(globset_overlap(glob, glob, 0, 9, &answers) == GLOBSET_OK);
+    CHECK(globset_answers_indexes(answers, 0, NULL, &count) == GLOBSET_ENULL);
+    CHECK(globset_answers_indexes(answers, 0, &indexes, NULL) == GLOBSET_ENULL);
+    globset_answers_free(answers);
+    globset_glob_free(glob);
+}
+
 /* An object that is no searcher, in the place of one. */
 static void no_searcher(void *object) {
     static const size_t end = 1;
@@ -161,9 +188,22 @@ static void no_set(const void *object) {
     CHECK(globset_searcher_new(set, &searcher) == GLOBSET_EKIND && searcher == NULL);
 }
 
+static void no_answers(void *object) {
+    globset_answers *answers = (globset_answers *)object;
+    const char *path = "x";
+    const size_t *indexes = (const size_t *)&path;
+    size_t count = 7;
+    CHECK(globset_answers_has_path(answers, 0, &path, &count) == GLOBSET_EKIND && path == NULL && count == 0);
+    CHECK(globset_answers_indexes(answers, 0, &indexes, &count) == GLOBSET_EKIND && indexes == NULL && count == 0);
+}
+
 static void no_glob(const void *object, globset_builder *builder) {
     const globset_glob *glob = (const globset_glob *)object;
     globset_matcher *matcher;
+    globset_answers *answers;
+    CHECK(globset_covering(glob, NULL, 0, 0, 9, &answers) == GLOBSET_EKIND && answers == NULL);
+    CHECK(globset_overlap(glob, glob, 0, 9, &answers) == GLOBSET_EKIND && answers == NULL);
+    CHECK(globset_unreachable(&glob, 1, 0, 0, 9, &answers) == GLOBSET_EKIND && answers == NULL);
     size_t length = 7;
     CHECK(globset_glob_regex(glob, NULL, 0, &length) == GLOBSET_EKIND && length == 0);
     CHECK(globset_glob_text(glob, NULL, 0, &length) == GLOBSET_EKIND && globset_glob_options(glob) == 0);
@@ -179,13 +219,15 @@ static void no_builder(void *object, const globset_glob *glob) {
     CHECK(globset_builder_build(builder, &set) == GLOBSET_EKIND && set == NULL);
 }
 
-/* Passes an object to the `_free` of each other kind. The objects are a glob, a set, a searcher, a builder and a matcher. */
+/* Passes an object to the `_free` of each other kind. The objects are a glob, a set, a searcher, a builder, a matcher
+ * and answers. */
 static void free_as_another(void *const *objects, int kind) {
     if (kind != 0) globset_glob_free((globset_glob *)objects[kind]);
     if (kind != 1) globset_set_free((globset_set *)objects[kind]);
     if (kind != 2) globset_searcher_free((globset_searcher *)objects[kind]);
     if (kind != 3) globset_builder_free((globset_builder *)objects[kind]);
     if (kind != 4) globset_matcher_free((globset_matcher *)objects[kind]);
+    if (kind != 5) globset_answers_free((globset_answers *)objects[kind]);
 }
 
 static void wrong_kinds(void) {
@@ -195,25 +237,30 @@ static void wrong_kinds(void) {
     globset_searcher *searcher = searcher_of(globs, 1);
     globset_builder *builder;
     globset_matcher *matcher;
+    globset_answers *answers;
     CHECK(globset_builder_new(&builder) == GLOBSET_OK && globset_matcher_new(glob, &matcher) == GLOBSET_OK);
-    void *const objects[5] = {glob, set, searcher, builder, matcher};
-    for (int i = 0; i < 5; i++) {
+    CHECK(globset_overlap(glob, glob, 0, 9, &answers) == GLOBSET_OK);
+    void *const objects[6] = {glob, set, searcher, builder, matcher, answers};
+    for (int i = 0; i < 6; i++) {
         if (objects[i] != glob) no_glob(objects[i], builder);
         if (objects[i] != set) no_set(objects[i]);
         if (objects[i] != searcher) no_searcher(objects[i]);
         if (objects[i] != builder) no_builder(objects[i], glob);
+        if (objects[i] != answers) no_answers(objects[i]);
         CHECK(globset_matcher_is_match((globset_matcher *)objects[i], "a", 1) == (i == 4 ? 1 : GLOBSET_EKIND));
     }
     CHECK(globset_searcher_is_match(searcher, "a", 1) == 1 && globset_set_is_match(set, "a", 1) == 1);
-    for (int i = 0; i < 5; i++) free_as_another(objects, i);
+    for (int i = 0; i < 6; i++) free_as_another(objects, i);
     CHECK(globset_searcher_is_match(searcher, "a", 1) == 1 && globset_set_is_match(set, "a", 1) == 1);
     CHECK(globset_matcher_is_match(matcher, "a", 1) == 1 && globset_glob_options(glob) == 0);
     CHECK(globset_builder_add(builder, glob) == GLOBSET_OK);
+    CHECK(globset_answers_has_path(answers, 0, NULL, NULL) == 1);
     globset_glob_free(glob);
     globset_set_free(set);
     globset_searcher_free(searcher);
     globset_builder_free(builder);
     globset_matcher_free(matcher);
+    globset_answers_free(answers);
 }
 
 /* Lengths and counts that no array has: -1, as of a read that failed, and others. They are errors, and nothing is read. */
@@ -234,6 +281,10 @@ static void impossible_lengths(void) {
         char buffer[4] = "###";
         globset_glob *none;
         globset_set *no_set;
+        const globset_glob *const those[1] = {glob};
+        globset_answers *answers;
+        CHECK(globset_covering(glob, those, wrong, 0, 9, &answers) == GLOBSET_ELENGTH && answers == NULL);
+        CHECK(globset_unreachable(those, wrong, 0, 0, 9, &answers) == GLOBSET_ELENGTH && answers == NULL);
         CHECK(globset_set_is_match(set, "a", wrong) == GLOBSET_ELENGTH);
         CHECK(globset_matcher_is_match(matcher, "a", wrong) == GLOBSET_ELENGTH);
         CHECK(globset_searcher_is_match(searcher, "a", wrong) == GLOBSET_ELENGTH);
@@ -263,14 +314,14 @@ static void impossible_lengths(void) {
 
 /* Each result has a text of its own, and a number that is none has one too. */
 static void status_texts(void) {
-    for (int status = 1; status >= GLOBSET_ELENGTH; status--)
+    for (int status = 1; status >= GLOBSET_EINDEX; status--)
         for (int other = 1; other > status; other--)
             CHECK(strcmp(globset_status_text(status), globset_status_text(other)) != 0);
     CHECK(strcmp(globset_status_text(GLOBSET_ENOMEM), "memory ran out") == 0);
     CHECK(strcmp(globset_status_text(GLOBSET_ENULL), "a pointer is null that must not be") == 0);
     CHECK(strcmp(globset_status_text(GLOBSET_ENONE), "the error is none, so it says nothing") == 0);
-    CHECK(strcmp(globset_status_text(GLOBSET_ELENGTH - 1), "no result of this library") == 0);
-    CHECK(strcmp(globset_status_text(2), globset_status_text(GLOBSET_ELENGTH - 1)) == 0);
+    CHECK(strcmp(globset_status_text(GLOBSET_EINDEX - 1), "no result of this library") == 0);
+    CHECK(strcmp(globset_status_text(2), globset_status_text(GLOBSET_EINDEX - 1)) == 0);
     CHECK(globset_status_text(-2147483647 - 1) != NULL && globset_status_text(2147483647) != NULL);
 }
 
@@ -281,6 +332,7 @@ int main(void) {
     makers();
     questions();
     many();
+    relations();
     wrong_kinds();
     impossible_lengths();
     status_texts();

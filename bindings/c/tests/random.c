@@ -7,7 +7,7 @@
 
 #include <pthread.h>
 
-enum { THREADS = 8, CALLS = 20, KINDS = 5, PIECES = 14 };
+enum { THREADS = 8, CALLS = 20, KINDS = 6, PIECES = 14 };
 
 static const char *const globs[] = {"*.c", "src/**", "{a,b}*", "*a*b*c", "[!x]?"};
 static const struct {
@@ -49,7 +49,7 @@ static const char *text(struct caller *caller, size_t *length) {
 
 /* Notes a result, which has to be one of those that there are. */
 static void note(struct caller *caller, int result) {
-    CHECK(result <= 1 && result >= GLOBSET_ELENGTH && result != GLOBSET_ENOMEM);
+    CHECK(result <= 1 && result >= GLOBSET_EINDEX && result != GLOBSET_ENOMEM);
     *(result < 0 ? &caller->errors : &caller->answers) += 1;
 }
 
@@ -96,6 +96,26 @@ static void write_text(struct caller *caller) {
     }
 }
 
+/* Asks about all paths, or reads the answers of the thread. */
+static void relate(struct caller *caller) {
+    const globset_glob *two[2] = {object(caller, 0), object(caller, 0)};
+    uint32_t domain = (uint32_t)next(caller, 3), decides = (uint32_t)next(caller, 3);
+    size_t count = next(caller, 8) == 0 ? impossible[next(caller, 3)] : next(caller, 3), limit = next(caller, 100);
+    globset_answers *made = NULL, **to = next(caller, 9) ? &made : NULL;
+    const globset_glob *const *list = next(caller, 9) ? two : NULL;
+    const char *path;
+    const size_t *indexes;
+    switch (next(caller, 5)) {
+    case 0: note(caller, globset_covering(object(caller, 0), list, count, domain, limit, to)); break;
+    case 1: note(caller, globset_overlap(two[0], two[1], domain, limit, to)); break;
+    case 2: note(caller, globset_unreachable(list, count, decides, domain, limit, to)); break;
+    case 3: note(caller, globset_answers_has_path(object(caller, 5), next(caller, 3), &path, &count)); break;
+    default: note(caller, globset_answers_indexes(object(caller, 5), next(caller, 3), &indexes, &count));
+    }
+    globset_searcher_free((globset_searcher *)made);
+    globset_answers_free(made);
+}
+
 /* Makes an object and frees it, or passes it to the `_free` of another kind first. */
 static void make(struct caller *caller) {
     size_t length, index;
@@ -122,6 +142,7 @@ static void check_answers(struct caller *caller) {
     CHECK(globset_set_is_match(caller->objects[1], "src/x.c", 7) == 1 && globset_set_length(caller->objects[1]) == 5);
     CHECK(finds(caller->objects[2], "src/x.c", wanted, 2));
     CHECK(globset_matcher_is_match(caller->objects[4], "abc", 3) == 1);
+    CHECK(globset_answers_has_path(caller->objects[5], 0, NULL, NULL) == 1);
 }
 
 struct work {
@@ -135,19 +156,24 @@ static void *run(void *at) {
     globset_searcher *searcher;
     globset_matcher *matcher;
     globset_builder *builder;
+    globset_answers *answers;
+    CHECK(globset_overlap(caller->objects[0], caller->objects[0], 0, 100, &answers) == GLOBSET_OK);
     CHECK(globset_searcher_new(caller->objects[1], &searcher) == GLOBSET_OK);
     CHECK(globset_matcher_new(caller->objects[0], &matcher) == GLOBSET_OK);
     CHECK(globset_builder_new(&builder) == GLOBSET_OK);
     caller->objects[2] = searcher;
     caller->objects[3] = builder;
     caller->objects[4] = matcher;
+    caller->objects[5] = answers;
     for (long round = 0; round < work->rounds; round++) {
         for (int i = 0; i < CALLS; i++) {
             uint64_t chosen = next(caller, 10);
             if (chosen == 0)
                 make(caller);
-            else if (chosen < 4)
+            else if (chosen < 3)
                 write_text(caller);
+            else if (chosen < 5)
+                relate(caller);
             else
                 ask(caller);
         }
@@ -156,6 +182,7 @@ static void *run(void *at) {
     globset_searcher_free(searcher);
     globset_matcher_free(matcher);
     globset_builder_free(builder);
+    globset_answers_free(answers);
     return NULL;
 }
 

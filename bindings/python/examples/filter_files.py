@@ -1,5 +1,5 @@
 #!/usr/bin/env python3
-"""Prints the files below a folder that match one of the globs, which a process for each processor matches.
+"""Prints the files below a directory that match one of the globs, which a process for each processor matches.
 
 Usage: filter_files.py FOLDER GLOB..
 
@@ -22,7 +22,7 @@ def stop(error):
 
 
 def paths_below(top):
-    """Yields the paths of the files below a folder, relative to it. Raises the error of a folder that cannot be read."""
+    """Yields the paths of the files below a directory, relative to it. Raises the error of a directory that cannot be read."""
     for at, folders, names in os.walk(top, onerror=stop):
         folders.sort()
         start = os.path.relpath(at, top)
@@ -51,7 +51,7 @@ def matching(paths):
 
 
 def print_matching(globs, top):
-    """Prints the paths of the files below a folder that some glob matches. Returns whether there are any."""
+    """Prints the paths of the files below a directory that some glob matches. Returns whether there are any."""
     found = False
     # A new process for each worker: this one may have threads, and then its copy by `fork` may not match.
     with multiprocessing.get_context("spawn").Pool(initializer=begin, initargs=[globs]) as pool:

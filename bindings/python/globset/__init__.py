@@ -286,13 +286,13 @@ def walk(
 ) -> Iterator[AnyStr]:
     """Yields the paths of the files below ``top`` that some glob matches, relative to ``top``, with ``/`` between names.
 
-    ``globs`` is a ``GlobSet`` or what one is made from, and so is ``ignored``. A folder is opened only if some path below it
-    can match a glob, and ``ignored`` does not match the folder itself. A file that ``ignored`` matches is left out. Symbolic
-    links below ``top`` are not followed: they are files, whatever they name.
+    ``globs`` is a ``GlobSet`` or what one is made from, and so is ``ignored``. A directory is opened only if some path below
+    it can match a glob, and ``ignored`` does not match the directory itself. A file that ``ignored`` matches is left out.
+    Symbolic links below ``top`` are not followed: they are files, whatever they name.
 
-    The files of a folder come before what is in its folders, both in the order of their names. The paths are ``bytes`` if
-    ``top`` is. If a folder cannot be read, ``on_error`` is called with the ``OSError``, and the walk goes on after it; without
-    ``on_error`` the exception is raised.
+    The files of a directory come before the contents of its directories, both in the order of their names. The paths are
+    ``bytes`` if ``top`` is. If a directory cannot be read, ``on_error`` is called with the ``OSError``, and the walk goes on
+    after it; without ``on_error`` the exception is raised.
 
     >>> import os, tempfile
     >>> with tempfile.TemporaryDirectory() as top:

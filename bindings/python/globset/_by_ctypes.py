@@ -6,12 +6,13 @@ import ctypes
 import os
 from array import array
 from collections import deque
+from functools import partial
 from itertools import accumulate, compress
 from typing import Any, Deque, Iterable, List, Tuple, Type, TypeVar, Union
 
 from . import _library
 from ._errors import glob_error
-from ._library import Lent, Object, Searcher
+from ._library import Lent, Object, Searcher, Told
 
 Path = Union[str, bytes, "os.PathLike[str]", "os.PathLike[bytes]"]
 
@@ -186,7 +187,7 @@ class GlobSetBase:
         return list(compress(asked, self._ask_many([_bytes_of(path) for path in asked])))
 
     def can_match_below(self, folder: Path, /) -> bool:
-        """Returns whether some path below the folder can match: the folder, a ``/``, and any bytes, perhaps none.
+        """Returns whether some path below the directory can match: the directory, a ``/``, and any bytes, perhaps none.
 
         >>> sources = GlobSet(["src/**/*.py"])
         >>> sources.can_match_below("src/tool"), sources.can_match_below("docs")
@@ -220,6 +221,29 @@ class GlobSetBase:
             return self._searchers.pop()
         except IndexError:
             return Searcher(self._at)
+
+
+def covering(glob: GlobBase, by: Tuple[GlobBase, ...], domain: int, limit: int, /) -> Told:
+    """Returns a shortest path that a glob matches and others miss, no indexes if there is none, or None at the limit."""
+    lent = ctypes.byref(Lent(glob._glob.at))
+    ask = partial(_library.covering, lent, _lend_globs(by), len(by), domain, limit)
+    return _library.Answers(ask).told(0)
+
+
+def overlap(a: GlobBase, b: GlobBase, domain: int, limit: int, /) -> Told:
+    """Returns a shortest path that two globs match, no indexes if there is none, or None at the limit."""
+    lent_a, lent_b = ctypes.byref(Lent(a._glob.at)), ctypes.byref(Lent(b._glob.at))
+    return _library.Answers(partial(_library.overlap, lent_a, lent_b, domain, limit)).told(0)
+
+
+def unreachable(globs: Tuple[GlobBase, ...], decides: int, domain: int, limit: int, /) -> List[Told]:
+    """Returns for each glob a shortest path about which it decides, the indexes of globs that cover it, or None at the limit."""
+    answers = _library.Answers(partial(_library.unreachable, _lend_globs(globs), len(globs), decides, domain, limit))
+    return [answers.told(index) for index in range(len(globs))]
+
+
+def _lend_globs(globs: Tuple[GlobBase, ...]) -> Any:
+    return _library.lend_all([glob._glob.at for glob in globs])
 
 
 def escape(text: str, /) -> str:

@@ -585,6 +585,8 @@ static PyObject *set_matches_many(PyObject *self, PyObject *paths) {
 
 static PyObject *set_filter(PyObject *self, PyObject *paths) { return ask_many(self, paths, set_ask_block, add_matching); }
 
+#include "_relations.h"
+
 /* ---- The module ---- */
 
 static PyObject *escape(PyObject *module, PyObject *text) {
@@ -632,6 +634,9 @@ static PyMethodDef set_methods[] = {
 };
 
 static PyMethodDef functions[] = {
+    {"covering", covering, METH_VARARGS, COVERING},
+    {"overlap", overlap, METH_VARARGS, OVERLAP},
+    {"unreachable", unreachable, METH_VARARGS, UNREACHABLE},
     {"escape", escape, METH_O, ESCAPE},
     {"version", version, METH_NOARGS, VERSION},
     {NULL, NULL, 0, NULL},

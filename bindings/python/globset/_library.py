@@ -4,11 +4,12 @@ from __future__ import annotations
 
 import ctypes
 import os
-from typing import Any, Callable, List
+from typing import Any, Callable, List, Sequence, Tuple, Union
 
 # What a call returns.
 DONE, NO, YES, OUT_OF_MEMORY, REJECTED = range(5)
 TOO_SMALL = 9
+LIMIT_REACHED = 10
 
 # GLOBSET_INTERFACE of the header that this file was written after.
 INTERFACE = 1
@@ -37,8 +38,14 @@ class Error(ctypes.Structure):
     ]
 
 
+class Bytes(ctypes.Structure):
+    """globset_bytes: bytes that answers lend."""
+
+    _fields_ = [("at", ctypes.c_void_p), ("count", ctypes.c_size_t)]
+
+
 class Indexes(ctypes.Structure):
-    """globset_indexes: indexes that a searcher lends."""
+    """globset_indexes: indexes that a searcher or answers lend."""
 
     _fields_ = [("at", ctypes.c_void_p), ("count", ctypes.c_size_t)]
 
@@ -60,7 +67,8 @@ def _load() -> ctypes.CDLL:
 _library = _load()
 _BYTES, _SIZE = ctypes.c_char_p, ctypes.c_size_t
 # Addresses of values of the types above, of which a call is given `byref`, or the number, which takes less time.
-_OWNED = _LENT = _ERROR = _INDEXES = _RESULT = ctypes.c_void_p
+_OWNED = _LENT = _LENTS = _ERROR = _LENT_BYTES = _INDEXES = _RESULT = ctypes.c_void_p
+_NUMBER = ctypes.c_uint32
 _ROOM = (ctypes.c_void_p, _SIZE, _RESULT)
 
 
@@ -88,6 +96,10 @@ searcher_is_match_many = _declare(
     "raw_searcher_is_match_many", _OWNED, _BYTES, _SIZE, ctypes.c_void_p, _SIZE, ctypes.c_void_p, _SIZE
 )
 searcher_can_match_below = _declare("raw_searcher_can_match_below", _OWNED, _BYTES, _SIZE)
+covering = _declare("raw_covering", _LENT, _LENTS, _SIZE, _NUMBER, _SIZE, _OWNED)
+overlap = _declare("raw_overlap", _LENT, _LENT, _NUMBER, _SIZE, _OWNED)
+unreachable = _declare("raw_unreachable", _LENTS, _SIZE, _NUMBER, _NUMBER, _SIZE, _OWNED)
+answers_at = _declare("raw_answers_at", _OWNED, _SIZE, _LENT_BYTES, _INDEXES)
 escape = _declare("raw_escape", _BYTES, _SIZE, *_ROOM)
 version = _declare("version")
 _free = _declare("raw_free", Owned, result=None)
@@ -131,6 +143,39 @@ class Searcher:
         indexes.at, indexes.count = self._NONE_AT, 0
         raise_unless_done(searcher_found(self.at, self._indexes_at))
         return self._found[: indexes.count]
+
+
+Told = Union[bytes, Tuple[int, ...], None]
+
+
+class Answers:
+    """Answers of the library to a question about all paths. `ask` makes them at the address that it is given."""
+
+    def __init__(self, ask: Callable[[Any], int]) -> None:
+        self._object = Object()
+        raise_unless_done(ask(ctypes.byref(self._object)))
+
+    def told(self, index: int) -> Told:
+        """Returns what the answer of an index tells: a path, the indexes of globs, or nothing where the limit was reached."""
+        none = (ctypes.c_size_t * 1)()
+        # The places have to be valid before a call that writes them.
+        path, indexes = Bytes(ctypes.addressof(none), 0), Indexes(ctypes.addressof(none), 0)
+        status = answers_at(ctypes.byref(self._object), index, ctypes.byref(path), ctypes.byref(indexes))
+        if status == LIMIT_REACHED:
+            return None
+        if status == YES:
+            return ctypes.string_at(path.at, path.count) if path.count else b""
+        if status != NO:
+            raise failure(status)
+        if not indexes.count:
+            return ()
+        return tuple(ctypes.cast(indexes.at, ctypes.POINTER(ctypes.c_size_t))[: indexes.count])
+
+
+def lend_all(addresses: Sequence[int]) -> Any:
+    """Returns an array of handles of lent objects, for one call."""
+    # It has one more, since no array may be null.
+    return (Lent * (len(addresses) + 1))(*map(Lent, addresses))
 
 
 def failure(status: int) -> Exception:

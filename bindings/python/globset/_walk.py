@@ -1,4 +1,4 @@
-"""A walk over folders that opens only those in which something can match."""
+"""A walk that opens only directories in which something can match."""
 
 from __future__ import annotations
 
@@ -15,9 +15,9 @@ def files(
     unwanted: Optional[GlobSetBase],
     on_error: Optional[Callable[[OSError], object]],
 ) -> Iterator[AnyStr]:
-    """Yields the paths of the files below a folder that one set matches and the other does not."""
+    """Yields the paths of the files below a directory that one set matches and the other does not."""
     slash = os.fsencode("/") if isinstance(top, bytes) else "/"
-    # The folders to open, the next one last: what the paths in them begin with, and where they are.
+    # The directories to open, the next one last: what the paths in them begin with, and where they are.
     pending: List[Tuple[AnyStr, AnyStr]] = [(top[:0], top)]
     while pending:
         start, at = pending.pop()
@@ -34,7 +34,7 @@ def files(
 
 
 def _read(start: AnyStr, at: AnyStr) -> Tuple[List[AnyStr], List[AnyStr]]:
-    """Returns the paths of the files and of the folders in a folder, in the order of their names."""
+    """Returns the paths of the files and of the directories in a directory, in the order of their names."""
     names: List[AnyStr] = []
     folders: List[AnyStr] = []
     with os.scandir(at) as entries:

@@ -7,6 +7,7 @@ Each call has to raise MemoryError or to answer as it does otherwise, and all ob
 import os
 
 from globset import Glob, GlobError, GlobSet, escape
+from globset.relations import covering, overlap, unreachable
 
 PATHS = ["src/a.py", b"b.c", "README", "a" * 300] * 600
 PATTERNS = ["*.py", "src/**/[ab]*", "{a,b*}c", "**", "*a*b*", "README"]
@@ -39,6 +40,9 @@ CALLS = {
     "matches_many": on_set(lambda globs: globs.matches_many(PATHS)),
     "filter": on_set(lambda globs: globs.filter(PATHS)),
     "escape": lambda: escape("*" * 1000),
+    "covering": lambda: covering("src/**/[ab]*.py", PATTERNS),
+    "overlap": lambda: overlap("a*", "*b"),
+    "unreachable": lambda: unreachable(PATTERNS),
 }
 
 

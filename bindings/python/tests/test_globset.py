@@ -573,28 +573,40 @@ class Use(unittest.TestCase):
                 call(paths())
 
     def test_the_lock_is_released(self):
-        """Another thread runs during a call about many paths. On a busy machine it may take several calls until it does."""
-        globs, paths = GlobSet(["*a*[xy]*c", "*[xy]*a*c"]), [b"ab" * 100_000 + b"c"] * 50
-        times, is_over = [], threading.Event()
+        """Another thread runs during a call about many paths.
 
-        def note_times():
+        With so long a switch interval it can only do so when the call releases the lock, however busy the machine is.
+        """
+        globs, paths = GlobSet(["*a*[xy]*c", "*[xy]*a*c"]), [b"ab" * 100_000 + b"c"] * 50
+        counts, is_over = [0], threading.Event()
+
+        def count():
             while not is_over.is_set():
-                times.append(time.monotonic())
+                counts[0] += 1
                 time.sleep(0.0005)
 
         def runs_during(call):
-            start = time.monotonic()
+            before = counts[0]
             call(paths)
-            end = time.monotonic()
-            return sum(start < moment < end for moment in times[-10_000:]) > 10
+            return counts[0] != before
 
-        thread = threading.Thread(target=note_times)
+        def runs_in_the_end(call):
+            end = time.monotonic() + 60
+            while not runs_during(call):
+                if time.monotonic() > end:
+                    return False
+            return True
+
+        interval = sys.getswitchinterval()
+        sys.setswitchinterval(1000)
+        thread = threading.Thread(target=count)
         thread.start()
         try:
             for call in [globs.match_many, globs.matches_many, globs.filter, globs.globs[0].match_many, globs.globs[1].filter]:
-                self.assertTrue(any(runs_during(call) for _ in range(20)), call)
+                self.assertTrue(runs_in_the_end(call), call)
         finally:
             is_over.set()
+            sys.setswitchinterval(interval)
             thread.join()
 
     @unittest.skipIf(IS_CTYPES, "all paths are made before any is matched")
@@ -722,7 +734,8 @@ time.sleep(0.05)
             one, other = [importlib.import_module(f"globset.{name}") for name in ["_extension", "_by_ctypes"]]
         except (ImportError, OSError):
             self.skipTest("one of them is not there")
-        pairs = [(getattr(one, name), getattr(other, name)) for name in ["GlobBase", "GlobSetBase", "escape", "version"]]
+        functions = ["covering", "overlap", "unreachable", "escape", "version"]
+        pairs = [(getattr(one, name), getattr(other, name)) for name in ["GlobBase", "GlobSetBase", *functions]]
         for first, second in pairs[:2]:
             names = [name for name in dir(second) if not name.startswith("_")]
             self.assertEqual([name for name in dir(first) if not name.startswith("_")], names)
@@ -735,7 +748,7 @@ time.sleep(0.05)
 
     def test_examples_of_the_documents(self):
         count = 0
-        for name in [f"{HERE}/README.md", f"{TOP}/README.md", f"{TOP}/release/INSTALL.md"]:
+        for name in [f"{HERE}/README.md", f"{TOP}/README.md", f"{TOP}/packaging/INSTALL.md"]:
             with open(name, encoding="utf-8") as file:
                 examples = re.findall(EXAMPLE, file.read())
             for program, wanted in examples:

@@ -5,7 +5,7 @@ from __future__ import annotations
 import pathlib
 from typing import Dict, Iterator, List, Tuple
 
-from globset import ErrorKind, Glob, GlobError, GlobSet, escape, walk
+from globset import ErrorKind, Glob, GlobError, GlobSet, escape, relations, walk
 
 one: Glob = Glob("*.py", case_insensitive=True)
 yes: bool = one.match("a.py")
@@ -24,6 +24,10 @@ texts: Iterator[str] = walk(".", ["*.py"], ignored=GlobSet(["build/**"]))
 raw: Iterator[bytes] = walk(b".", [one])
 below: bool = GlobSet([one]).can_match_below(b"a")
 escaped: str = escape("a")
+covered: relations.Coverage = relations.covering("*.c", [one, "*"], domain=relations.Domain.ALL_PATHS)
+missed: str = covered.path or ""
+shared: relations.Intersection = relations.overlap(one, "a", limit=9)
+never: List[Tuple[int, ...]] = [rule.cover or () for rule in relations.unreachable(GlobSet([one]))]
 
 
 def kind_of(text: str) -> ErrorKind:

@@ -1,7 +1,8 @@
-//! `walk FOLDER GLOB..` prints the files below a folder that match one of the globs, but those that a file `.ignore` ignores.
+//! `walk FOLDER GLOB..` prints the files below a directory that match one of the globs, but those that a file `.ignore`
+//! ignores.
 //!
-//! A line of `.ignore` is read as in `.gitignore`: the last line that matches a path decides, and the file of a folder further
-//! down before that of one further up. An ignored folder is not opened.
+//! A line of `.ignore` is read as in `.gitignore`: the last line that matches a path decides, and the file of a directory
+//! further down before that of one further up. An ignored directory is not opened.
 
 use globset::{Glob, GlobBuilder, GlobSet};
 use std::{env, error::Error, fs, io, path::Path, path::PathBuf, process::ExitCode};
@@ -24,7 +25,7 @@ impl Rules {
         for line in text.lines().map(str::trim_end).filter(|line| !line.is_empty() && !line.starts_with('#')) {
             let (ignores, line) = line.strip_prefix('!').map_or((true, line), |rest| (false, rest));
             let (folders_only, line) = line.strip_suffix('/').map_or((false, line), |rest| (true, rest));
-            // A line with a `/` is a path from the folder of the file on, and any other a name in any folder.
+            // A line with a `/` is a path from the directory of the file on, and any other a name in any directory.
             let glob = if line.contains('/') { line.trim_start_matches('/').into() } else { format!("**/{line}") };
             globs.push(GlobBuilder::new(&glob).literal_separator(true).build()?);
             lines.push(Line { ignores, folders_only });
@@ -32,14 +33,15 @@ impl Rules {
         Ok(Rules { globs: GlobSet::new(globs)?, lines })
     }
 
-    /// Whether a path relative to the folder of the file is ignored, or `None` if no line matches it.
+    /// Whether a path relative to the directory of the file is ignored, or `None` if no line matches it.
     fn ignore(&self, path: &Path, is_folder: bool) -> Option<bool> {
         let found = self.globs.matches(path).into_iter().rev().map(|index| &self.lines[index]);
         found.into_iter().find(|line| is_folder || !line.folders_only).map(|line| line.ignores)
     }
 }
 
-/// Prints what is below a folder, and returns how many paths. The rules are those of the folders above it, each with its folder.
+/// Prints what is below a directory, and returns how many paths. The rules are those of the directories above it, each with its
+/// directory.
 fn walk(top: &Path, at: &Path, wanted: &GlobSet, rules: &mut Vec<(PathBuf, Rules)>) -> Result<usize, Box<dyn Error>> {
     let text = match fs::read_to_string(at.join(".ignore")) {
         Err(error) if error.kind() == io::ErrorKind::NotFound => String::new(),

@@ -4,7 +4,7 @@ use std::{fmt, path::Path};
 
 use crate::{ffi, Candidate, Error, GlobSet, GlobSetBuilder};
 
-/// The byte of a rejected text at which its first error stands, from 0. It is an addition to the crate globset.
+/// The byte of a rejected text where its first error stands, from 0. It is an addition to the crate globset.
 ///
 /// It is that of the `[` of an unclosed class or of one with an invalid range, of a `}` that closes nothing, of the last `\`, or
 /// of the outermost `{` that is open at the end of the text.
@@ -21,11 +21,10 @@ pub fn offset(error: &Error) -> usize {
     error.offset()
 }
 
-/// Makes the set of a builder's globs, as [`GlobSetBuilder::build`] does, of which at most `dfa_size_limit` bytes of rows of
-/// automata are kept. A thread that asks the set takes up to a quarter of that for rows. It is an addition to the crate
-/// globset.
+/// Makes the set of a builder's globs, as [`GlobSetBuilder::build`] does. The set keeps at most `dfa_size_limit` bytes of rows
+/// of automata. A thread that matches with it takes up to a quarter of that. It is an addition to the crate globset.
 ///
-/// No answer depends on the limit. With fewer bytes a question may take more time. With 0 there are no rows.
+/// No answer depends on the limit. With fewer bytes a call may take more time. With 0 there are no rows.
 /// [`GlobSetBuilder::build`] allows 16 MiB.
 ///
 /// # Examples
@@ -296,8 +295,8 @@ impl Searcher {
         Matches { indexes, ends }
     }
 
-    /// Whether some glob matches some path below the folder: the folder, a `/`, and any bytes, perhaps none. A walk over folders
-    /// need not open one below which none can match.
+    /// Whether some glob matches some path below the directory: the directory, a `/`, and any bytes, perhaps none. A walk need
+    /// not open a directory for which this is false.
     ///
     /// # Examples
     ///
@@ -312,7 +311,7 @@ impl Searcher {
         self.can_match_below_candidate(&Candidate::new(folder.as_ref()))
     }
 
-    /// Whether some glob matches some path below the folder of the candidate, as [`Searcher::can_match_below`].
+    /// Whether some glob matches some path below the candidate's directory, as [`Searcher::can_match_below`].
     ///
     /// # Examples
     ///

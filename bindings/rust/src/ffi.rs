@@ -40,6 +40,7 @@ const YES: Status = 2;
 const OUT_OF_MEMORY: Status = 3;
 const REJECTED: Status = 4;
 const TOO_SMALL: Status = 9;
+const LIMIT_REACHED: Status = 10;
 
 /// `globset_error`.
 #[repr(C)]
@@ -61,6 +62,13 @@ struct Owned {
 #[repr(C)]
 struct Lent {
     at: *const c_void,
+}
+
+/// `globset_bytes`.
+#[repr(C)]
+struct Bytes {
+    at: *const u8,
+    count: usize,
 }
 
 /// `globset_indexes`.
@@ -121,11 +129,35 @@ extern "C" {
         room_len: usize,
         needed: *mut usize,
     ) -> Status;
+    fn globset_raw_covering(
+        glob: *mut Lent,
+        by: *mut Lent,
+        by_len: usize,
+        domain: u32,
+        limit: usize,
+        out: *mut Owned,
+    ) -> Status;
+    fn globset_raw_overlap(a: *mut Lent, b: *mut Lent, domain: u32, limit: usize, out: *mut Owned) -> Status;
+    fn globset_raw_unreachable(
+        globs: *mut Lent,
+        globs_len: usize,
+        decides: u32,
+        domain: u32,
+        limit: usize,
+        out: *mut Owned,
+    ) -> Status;
+    fn globset_raw_answers_at(answers: *mut Owned, index: usize, path: *mut Bytes, indexes: *mut Indexes) -> Status;
     fn globset_raw_free(object: Owned);
     #[cfg(test)]
     fn globset_version() -> u32;
     #[cfg(test)]
     fn globset_interface() -> u32;
+}
+
+impl Bytes {
+    fn none() -> Bytes {
+        Bytes { at: ptr::NonNull::dangling().as_ptr(), count: 0 }
+    }
 }
 
 impl Indexes {
@@ -391,7 +423,7 @@ impl Searcher {
 
     #[inline]
     pub(crate) fn can_match_below(&mut self, folder: &[u8]) -> bool {
-        // SAFETY: "Whether some glob of the searcher's set matches some path below the folder".
+        // SAFETY: "Whether some glob of the searcher's set matches some path below the directory".
         answer(unsafe { globset_raw_searcher_can_match_below(&mut self.0, folder.as_ptr(), folder.len()) })
     }
 
@@ -489,6 +521,74 @@ impl Drop for Builder {
         // the only `free` of it.
         unsafe { globset_raw_free(object) }
     }
+}
+
+/// What an answer to a question about all paths tells.
+pub(crate) enum Told {
+    Path(Vec<u8>),
+    NoPath(Vec<usize>),
+    LimitReached,
+}
+
+/// Answers of the library.
+struct Answers(Owned);
+
+impl Answers {
+    /// What the answer of an index tells, which has to be there.
+    fn told(&mut self, index: usize) -> Told {
+        let (mut path, mut indexes) = (Bytes::none(), Indexes::none());
+        // SAFETY: "Lends what the answer of an index tells." What is handed in is valid, since it has no members. The answers are
+        // borrowed exclusively: "An owned object is in one call at a time."
+        match unsafe { globset_raw_answers_at(&mut self.0, index, &mut path, &mut indexes) } {
+            YES if path.count == 0 => Told::Path(Vec::new()),
+            NO if indexes.count == 0 => Told::NoPath(Vec::new()),
+            // SAFETY: "Both may be read until the next call that the answers are passed to", and are copied here.
+            YES => Told::Path(unsafe { slice::from_raw_parts(path.at, path.count) }.to_vec()),
+            // SAFETY: "Both may be read until the next call that the answers are passed to", and are copied here.
+            NO => Told::NoPath(unsafe { slice::from_raw_parts(indexes.at, indexes.count) }.to_vec()),
+            LIMIT_REACHED => Told::LimitReached,
+            status => unexpected(status),
+        }
+    }
+}
+
+impl Drop for Answers {
+    fn drop(&mut self) {
+        let object = Owned { at: self.0.at };
+        // SAFETY: "Frees an object of any kind. The caller owns it, it is lent to nobody, and what it lends is not read any
+        // more." Answers are never lent, what they lend is copied at once, and this is the only `free` of them.
+        unsafe { globset_raw_free(object) }
+    }
+}
+
+/// Whether some path of the domain is matched by the glob and by none of the others.
+pub(crate) fn covering<'g>(glob: &Glob, by: impl Iterator<Item = &'g Glob>, domain: u32, limit: usize) -> Told {
+    let (mut glob, mut by) = (glob.0.lend(), by.map(|glob| glob.0.lend()).collect::<Vec<Lent>>());
+    let (at, len) = (by.as_mut_ptr(), by.len());
+    // SAFETY: "Decides whether globs cover a glob". "Each element of the array is the handle of one glob". The globs are borrowed.
+    Answers(Owned::made(|out| unsafe { globset_raw_covering(&mut glob, at, len, domain, limit, out) })).told(0)
+}
+
+/// Whether some path of the domain is matched by both globs.
+pub(crate) fn overlap(a: &Glob, b: &Glob, domain: u32, limit: usize) -> Told {
+    let (mut a, mut b) = (a.0.lend(), b.0.lend());
+    // SAFETY: "Decides whether two globs match some path in common." "Each call gets a `globset_lent` of its own".
+    Answers(Owned::made(|out| unsafe { globset_raw_overlap(&mut a, &mut b, domain, limit, out) })).told(0)
+}
+
+/// For each glob whether it decides about some path of the domain.
+pub(crate) fn unreachable<'g>(
+    globs: impl Iterator<Item = &'g Glob>,
+    decides: u32,
+    domain: u32,
+    limit: usize,
+) -> Vec<Told> {
+    let mut globs: Vec<Lent> = globs.map(|glob| glob.0.lend()).collect();
+    let (at, len) = (globs.as_mut_ptr(), globs.len());
+    // SAFETY: "Decides for each glob of a list whether it ever decides". The globs are borrowed.
+    let made = Owned::made(|out| unsafe { globset_raw_unreachable(at, len, decides, domain, limit, out) });
+    let mut answers = Answers(made);
+    (0..len).map(|index| answers.told(index)).collect()
 }
 
 /// The text that a call writes into the room that it gets, which is `guess` bytes long at first, and the length that the call

@@ -1,9 +1,9 @@
-//! Globs, and sets of globs, which tell which paths match patterns such as `src/**/*.{rs,toml}`.
+//! Globs and sets of globs, which match paths against patterns such as `src/**/*.{rs,toml}`.
 //!
-//! This is the crate globset 0.4.21 in names, traits and errors, over a C library whose functions are written in Rattle, Rust
-//! with contracts, and proved: for every set of globs and every path, a set answers what its globs say one by one, with the one
-//! exception that [`GlobSet`] names. This crate, which calls them, and the library's bridge to `malloc` are tested, and not
-//! proved. A program that uses globset takes this crate by two lines in its `Cargo.toml`, as `README.md` says.
+//! This is the crate globset 0.4.21 in names, traits and errors, over a C library. The functions of the library are written in
+//! Rattle, Rust with contracts, and proved: for every path, a set returns what its globs return one by one, with one exception
+//! that [`GlobSet`] names. This crate and the library's bridge to `malloc` are tested, and not proved. A program that uses
+//! globset takes this crate by two lines in its `Cargo.toml`, as `README.md` says.
 //!
 //! ```
 //! use globset::{Glob, GlobSetBuilder};
@@ -39,9 +39,9 @@
 //!
 //! # How it differs
 //!
-//! Results are those of globset, but where globset has a fault: `*.` and other globs that end in `.` match a path that ends in
-//! `..` in a set, too; [`GlobSet::matches_all`] is true exactly if all globs match; an escaped `,` or `{` in braces is never
-//! lost; and with [`GlobBuilder::allow_unclosed_class`] no range in an unclosed class is an error. No glob, no nesting and no
+//! Results are those of globset, except where globset has a fault. In a set, too, `*.` and other globs that end in `.` match a
+//! path that ends in `..`. [`GlobSet::matches_all`] is true exactly if all globs match. An escaped `,` or `{` in braces is
+//! never lost. With [`GlobBuilder::allow_unclosed_class`] no range in an unclosed class is an error. No glob, no nesting and no
 //! set is too large: there is no regular expression engine whose limits could be passed, so [`ErrorKind::Regex`] never occurs.
 //! The features `log`, `simd-accel` and `arbitrary` are accepted and do nothing. The crate is for Linux on x86-64.
 //!
@@ -49,14 +49,14 @@
 //!
 //! Globs, matchers and sets can be sent to other threads and shared between them. A clone is one more reference.
 //!
-//! **Running out of memory ends the program, as it does in Rust's own containers.** Matching takes little memory beside what is
-//! kept for it: each question to a [`GlobSet`] keeps some for the thread that asks, as is said there, and a matcher that needs
-//! an automaton keeps up to 16 MiB of rows for all threads, until its last clone is dropped. A question to an
-//! [`ext::Searcher`] about one path takes none.
+//! **Running out of memory ends the program, as it does in Rust's own containers.** Memory for matching is kept from call to
+//! call: a [`GlobSet`] keeps some for each thread. A matcher that needs an automaton keeps up to 16 MiB of rows for all
+//! threads, until its last clone is dropped. An [`ext::Searcher`] allocates nothing for a single path.
 //!
 //! # Additions
 //!
-//! [`GlobBuilder::whole_character`] is an option that globset does not have, and [`ext`] has the other additions.
+//! [`GlobBuilder::whole_character`] is an option that globset does not have. The modules [`ext`] and [`relations`] have the other
+//! additions: searchers, and questions about all paths, such as whether two globs match some path in common.
 
 #![deny(missing_docs, unsafe_code, unsafe_op_in_unsafe_fn, clippy::undocumented_unsafe_blocks)]
 
@@ -70,6 +70,7 @@ pub mod ext;
 mod ffi;
 mod glob;
 mod per_thread;
+pub mod relations;
 mod set;
 #[cfg(feature = "serde1")]
 mod with_serde;

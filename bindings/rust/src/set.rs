@@ -4,15 +4,15 @@ use std::{fmt, path::Path, sync::Arc};
 
 use crate::{ffi, Candidate, Error, Glob};
 
-/// A set of globs, which are matched together. A glob's index is its number in the order in which it was added, from 0.
+/// A set of globs, which are matched together. The index of a glob is its number in the order of their additions, from 0.
 ///
-/// A set answers what its globs say one by one, with one exception: a case-sensitive glob that is read as `**/..` matches no
+/// A set returns what its globs return one by one, with one exception: a case-sensitive glob that is read as `**/..` matches no
 /// path in a set.
 ///
 /// Any number of threads may share a set, and a clone shares what was made for matching. A set keeps memory for each thread
-/// that asks it, which it takes at the thread's first call: eight bytes for each glob and some for automata, and up to 4 MiB
-/// for their rows, or more if its globs are very many. After a thread has ended, another one uses its memory. The last clone of
-/// the set frees all of it.
+/// that calls it, from the thread's first call on: eight bytes for each glob, some for automata, and up to 4 MiB for their
+/// rows, or more if its globs are very many. After a thread has ended, another uses its memory. The last clone of the set frees
+/// all of it.
 ///
 /// # Examples
 ///

@@ -1,7 +1,7 @@
-//! The command `find_files` prints the paths of the files below a folder that some glob matches.
+//! The command `find_files` prints the paths of the files below a directory that some glob matches.
 //!
-//! A path is from the folder on, without the folder and its `/`. The paths come in the order of their bytes. A folder is opened
-//! only if a path below it can match.
+//! A path is from the directory on, without the directory and its `/`. The paths come in the order of their bytes. A directory
+//! is opened only if a path below it can match.
 
 mod arguments;
 mod globs;
@@ -57,6 +57,6 @@ pub fn run(rt: &HostRuntime, arguments: &[String]) -> Result<ExitCode, Fault> {
 fn search(rt: &HostRuntime, arguments: &Arguments<'_>) -> Result<ExitCode, Fault> {
     let pending = first_pending(rt.alloc(), arguments.folder())?;
     let globs = Globs::read(rt, arguments)?;
-    let ignored = Ignored::new(rt.alloc(), arguments.flags.ignored)?;
+    let ignored = Ignored::new(rt.alloc(), arguments.flags.ignored);
     Walk::new(globs, ignored, pending, arguments.flags).run(rt)
 }

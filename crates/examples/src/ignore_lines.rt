@@ -1,10 +1,10 @@
 //! The command `ignore_lines` prints the paths of its input that an ignore file does not ignore, as git reads ignore files.
 //!
-//! The argument names the ignore file. Each line of standard input is the path of a file, from the folder that the ignore file
-//! is for, as `git ls-files` prints it.
+//! The argument names the ignore file. Each line of standard input is the path of a file, from the directory that the ignore
+//! file is for, as `git ls-files` prints it. With `-i` case is ignored, as git does it with `core.ignoreCase`.
 //!
-//! With `-v` it prints for each path the file and the line that decide about it, as `git check-ignore -v -n` does. There may then
-//! be several ignore files, each for its own folder.
+//! With `-v` it prints for each path the file and the line that decide about it, as `git check-ignore -v -n` does. There may
+//! then be several ignore files, each for its own directory.
 
 mod arguments;
 mod deciding;
@@ -23,11 +23,12 @@ use walk::Walk;
 
 pub const COMMAND: Command = Command {
     name: "ignore_lines",
-    help: "usage: examples ignore_lines FILE < PATHS
-       examples ignore_lines -v [-z] FILE.. < PATHS
+    help: "usage: examples ignore_lines [-i] FILE < PATHS
+       examples ignore_lines -v [-i] [-z] FILE.. < PATHS
 
 FILE has patterns, one a line, as a .gitignore has them.
-Each line of standard input is the path of a file. Those that FILE does not ignore are written to standard output.
+Each line of standard input is the path of a file. Those that FILE does not ignore are written to standard output. With -i ASCII
+letters are compared without regard to case, as git does with core.ignoreCase.
 
 With -v each FILE is for the folder in which it is, by its name, and a path that ends in / is that of a folder. What decides about a
 path is written before it, as FILE:LINE:TEXT and a tab; a TEXT that begins with ! keeps the path. Without a line that decides it is ::
@@ -41,14 +42,16 @@ pub fn run(rt: &HostRuntime, arguments: &[String]) -> Result<ExitCode, Fault> {
     match arguments {
         [option, named @ ..] if option.as_str() == "-v" => print_deciding(rt, Named::new(named)?),
         [argument] if asks_for_help(argument) => print_text(rt, COMMAND.help),
-        [name] => print_paths(rt, &TextFile::read(rt, name.as_str())?),
+        [option, name] if option.as_str() == "-i" => print_paths(rt, name, true),
+        [name] => print_paths(rt, name, false),
         _ => Err(Fault::Usage),
     }
 }
 
 /// Prints the paths that the file does not ignore.
-fn print_paths(rt: &HostRuntime, file: &TextFile) -> Result<ExitCode, Fault> {
-    let mut walk = Walk::new(rt.alloc(), file.bytes())?;
+fn print_paths(rt: &HostRuntime, name: &String, ignore_case: bool) -> Result<ExitCode, Fault> {
+    let file = TextFile::read(rt, name.as_str())?;
+    let mut walk = Walk::new(rt.alloc(), file.bytes(), ignore_case)?;
     let paths = Paths::read(rt)?;
     let mut output = Output::new(rt.alloc());
     for path in paths.ended_by(b'\n') {

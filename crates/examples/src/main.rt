@@ -4,7 +4,7 @@
 //! - `owners` prints the owners of paths, by an owners file.
 //! - `check` prints the rules of an owners file that never decide.
 //! - `ignore_lines` prints the paths that an ignore file does not ignore.
-//! - `find_files` prints the paths of the files below a folder that its globs match.
+//! - `find_files` prints the paths of the files below a directory that its globs match.
 //!
 //! The first argument names the command, and the module of that name does it with the others. The text of an error goes to
 //! standard error, and begins with the name of the command.

@@ -4,11 +4,11 @@
 //! - Every other line is a rule: a pattern, and after spaces or tabs its owners. They may be missing: then matched paths have no
 //!   owners.
 //! - The last rule that matches a path decides.
-//! - `*` and `?` do not match `/`. `**/` at the start and `/**/` match any folders, and `/**` at the end matches the contents of
-//!   a folder.
+//! - `*` and `?` do not match `/`. `**/` at the start and `/**/` match any directories, and `/**` at the end matches the
+//!   contents of a directory.
 //! - A pattern with a `/` that is not its last character matches from the root. Every other pattern matches at any depth.
-//! - A pattern matches everything in the folders that it matches, unless it ends in `/*`. A pattern that ends in `/` matches
-//!   nothing else.
+//! - A pattern matches everything in the directories that it matches, unless it ends in `/*`. A pattern that ends in `/`
+//!   matches nothing else.
 //!
 //! It differs from GitHub in this: `{a,b}` and `[ab]` match `a` and `b`, owners are not looked up, and a pattern that cannot be
 //! read is an error.

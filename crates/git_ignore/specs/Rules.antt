@@ -1,12 +1,12 @@
--- The rules of an ignore file, and their decision about a path below the file's folder. A line that no glob can express has no
--- rule, which is a difference from git.
+-- The rules of an ignore file, and their decision about a path below the file's folder. Git compares without regard to case where
+-- its setting `core.ignoreCase` is set: `ignore_case` is that setting.
 use Rattle.std.specs.Prelude.{ℕ, suc, Bool, not, ◌&&◌, ◌||◌, List, [], ◌∷◌, Option, Some, None, if◌then◌else◌}
 use Rattle.ignore_pattern.specs.Lines.{file_lines}
-use Rattle.ignore_pattern.specs.Patterns.{Pattern, read_pattern, pattern_matches}
+use Rattle.ignore_pattern.specs.Patterns.{Pattern, pattern_of_line, pattern_matches}
 use Rattle.git_ignore.specs.declared.decision.Decision.{Decision}
 use Rattle.git_ignore.specs.declared.decision.Decision.TheVariants.{Ignored, Kept, Undecided}
 
--- a line with a pattern that a glob can stand for: the number of the line, counted from 1, and the pattern
+-- a line with a pattern: the number of the line, counted from 1, and the pattern
 pub record Rule : Type 0 where
   pub line : ℕ
   pub pattern : Pattern
@@ -14,7 +14,7 @@ pub record Rule : Type 0 where
 -- the rules of these lines, from this number on
 abbrev pub rules_from : ℕ → List (List ℕ) → List Rule
 rules_from n [] = []
-rules_from n (line ∷ lines) = elim (read_pattern line) [ None ↦ rules_from (suc n) lines | Some p ↦ record { line = n; pattern = p } ∷ rules_from (suc n) lines ]
+rules_from n (line ∷ lines) = elim (pattern_of_line line) [ None ↦ rules_from (suc n) lines | Some p ↦ record { line = n; pattern = p } ∷ rules_from (suc n) lines ]
 
 -- the rules of an ignore file, given by its bytes
 unfoldable pub rules_of : List ℕ → List Rule
@@ -22,13 +22,14 @@ rules_of file = rules_from 1 (file_lines file)
 
 -- The rule applies to the path, of a folder or of something else: it matches the path, which has to be a folder if the rule is
 -- for folders alone.
-abbrev pub applies : List ℕ → Bool → Rule → Bool
-applies path is_folder rule = (is_folder || not rule.pattern.folders_only) && pattern_matches rule.pattern path
+abbrev pub applies : Bool → List ℕ → Bool → Rule → Bool
+applies ignore_case path is_folder rule = (is_folder || not rule.pattern.folders_only) && pattern_matches ignore_case rule.pattern path
 
 -- the last rule that applies
-abbrev pub last_rule : List ℕ → Bool → List Rule → Option Rule
-last_rule path is_folder [] = None
-last_rule path is_folder (rule ∷ rules) = elim (last_rule path is_folder rules) [ Some last ↦ Some last | None ↦ if applies path is_folder rule then Some rule else None ]
+abbrev pub last_rule : Bool → List ℕ → Bool → List Rule → Option Rule
+last_rule ignore_case path is_folder [] = None
+last_rule ignore_case path is_folder (rule ∷ rules) = elim (last_rule ignore_case path is_folder rules)
+    [ Some last ↦ Some last | None ↦ if applies ignore_case path is_folder rule then Some rule else None ]
 
 -- the decision of the last rule that applies
 abbrev pub said : Option Rule → Decision
@@ -36,8 +37,8 @@ said None = Undecided
 said (Some rule) = if rule.pattern.negated then Kept else Ignored
 
 -- The decision of an ignore file: the decision of the last rule that applies.
-unfoldable pub decision : List ℕ → List ℕ → Bool → Decision
-decision file path is_folder = said (last_rule path is_folder (rules_of file))
+unfoldable pub decision : Bool → List ℕ → List ℕ → Bool → Decision
+decision ignore_case file path is_folder = said (last_rule ignore_case path is_folder (rules_of file))
 
 -- the number of the line of a rule
 abbrev pub line_of : Option Rule → Option ℕ
@@ -45,5 +46,5 @@ line_of None = None
 line_of (Some rule) = Some rule.line
 
 -- The number of the line that decides: the line of the last rule that applies.
-unfoldable pub deciding_line : List ℕ → List ℕ → Bool → Option ℕ
-deciding_line file path is_folder = line_of (last_rule path is_folder (rules_of file))
+unfoldable pub deciding_line : Bool → List ℕ → List ℕ → Bool → Option ℕ
+deciding_line ignore_case file path is_folder = line_of (last_rule ignore_case path is_folder (rules_of file))

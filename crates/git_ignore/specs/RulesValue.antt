@@ -1,12 +1,30 @@
--- Rules as contracts see them.
-use Rattle.std.specs.Prelude.{ℕ, List}
-use Rattle.globset.specs.SetValue.{SetValue, ScratchValue, Fits}
+-- Rules, and the memory to decide with, as contracts see them.
+use Rattle.std.specs.Prelude.{ℕ, ◌≤◌, Bool, List}
+use Rattle.git_ignore.specs.Rules.{decision}
+use Rattle.git_ignore.specs.declared.decision.Decision.{Decision}
 
--- Rules are seen as the bytes of their file, and the set of their globs, which says how much memory matching takes.
+-- Rules are seen as the bytes of their file, whether case is ignored, and two numbers, which say how much memory deciding takes:
+-- of the states of their automaton, and of the rules.
 pub record RulesValue : Type 0 where
   pub file : List ℕ
-  pub set : SetValue
+  pub ignore_case : Bool
+  pub states : ℕ
+  pub rules : ℕ
 
--- The scratch fits the rules, as a set's scratch fits the set.
-abbrev pub FitsRules : ScratchValue → RulesValue → Type 0
-FitsRules scratch rules = Fits scratch rules.set
+-- the decision of rules about a path
+abbrev pub rules_decision : RulesValue → List ℕ → Bool → Decision
+rules_decision rules = decision rules.ignore_case rules.file
+
+-- A scratch is seen as two numbers: of the states that an automaton may have, and of the rules that there may be.
+pub record ScratchValue : Type 0 where
+  pub states : ℕ
+  pub rules : ℕ
+
+-- The scratch fits the rules: neither of its numbers is lower.
+pub record FitsRules (scratch : ScratchValue) (rules : RulesValue) : Type 0 where
+  pub for_states : rules.states ≤ scratch.states
+  pub for_rules : rules.rules ≤ scratch.rules
+
+-- the new scratch fits all rules that the old scratch fits
+abbrev pub FitsAsBefore : ScratchValue → ScratchValue → Type 0
+FitsAsBefore old new = (rules : RulesValue) → FitsRules old rules → FitsRules new rules

@@ -1,11 +1,14 @@
-//! The part of a rule that is not its glob.
+//! The part of a rule that is not its pattern.
 
-ghost use Rattle.std.specs.Prelude.{◌≡◌, ◌∷◌, None, Some, length, slice_get};
-ghost use Rattle.git_ignore.specs.inner.Entries.{chosen, decision_of, is_for, last_chosen, line_of_entry};
+ghost use Rattle.std.specs.Prelude.{◌≡◌, None, Some, length, slice_get};
+ghost use Rattle.bit_sets.specs.Indexes.{has_index};
+ghost use Rattle.git_ignore.specs.inner.Entries.{chosen, decision_of, entry_of, is_for, last_found, line_of_entry};
 
 use crate::decision::Decision;
+use bit_sets::IndexSet;
+use ignore_pattern::IgnorePattern;
 
-/// The part of a rule that is not its glob.
+/// The part of a rule that is not its pattern.
 #[derive(Clone, Copy, Debug)]
 pub struct RuleEntry {
     /// The number of its line, counted from 1.
@@ -15,6 +18,17 @@ pub struct RuleEntry {
 }
 
 impl RuleEntry {
+    /// Returns the entry of a rule, by the number of its line and its pattern.
+    pub fn new(line: usize, pattern: &IgnorePattern) -> RuleEntry
+        ensures { result ≡ entry_of (record { line = line; pattern = pattern.now }) }
+    {
+        RuleEntry {
+            line,
+            is_negated: pattern.is_negated(),
+            is_folders_only: pattern.is_folders_only(),
+        }
+    }
+
     /// Returns whether the rule is for folders, or for other paths.
     fn is_for(self, is_folder: bool) -> bool
         ensures { result ≡ is_for is_folder self }
@@ -54,17 +68,16 @@ pub fn line_by(last: Option<RuleEntry>) -> Option<usize>
     }
 }
 
-/// Returns the last of the entries at these indexes that is for folders, or for other paths.
-pub fn last_entry_for(
-    entries: &[RuleEntry],
-    indexes: &[usize],
-    is_folder: bool,
-) -> Option<RuleEntry>
-    ensures { result ≡ last_chosen entries.now is_folder None indexes.now }
+/// Returns the last of the entries whose indexes are in a set that is for folders, or for other paths.
+pub fn last_entry_for(entries: &[RuleEntry], found: &IndexSet, is_folder: bool) -> Option<RuleEntry>
+    ensures { result
+        ≡ last_found (has_index found.now) is_folder entries.now (length entries.now) }
 {
     let mut last = None;
-    for index in indexes {
-        last = later_entry(entries, *index, is_folder, last);
+    let mut from = 0;
+    while let Some(index) = found.next_below(from, entries.len()) {
+        last = later_entry(entries, index, is_folder, last);
+        from = index + 1;
     }
     last
 }

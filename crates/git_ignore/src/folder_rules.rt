@@ -1,18 +1,15 @@
 //! The rules of an ignore file among several.
 
-ghost use Rattle.std.specs.Prelude.{◌≡◌, IfOk, IsOkUnless};
-ghost use Rattle.globset.specs.Errors.{out_of_memory};
-ghost use Rattle.globset.specs.SetValue.{FitsAsBefore};
+ghost use Rattle.std.specs.Prelude.{◌≡◌, IfOk};
 ghost use Rattle.git_ignore.specs.Folders.{file_decision, files_decision};
-ghost use Rattle.git_ignore.specs.RulesValue.{FitsRules};
+ghost use Rattle.git_ignore.specs.RulesValue.{FitsAsBefore, FitsRules};
 ghost use Rattle.git_ignore.specs.inner.Stacks.{FitAll, file_of, files_of};
 
 use crate::decision::Decision;
 use crate::rules::Rules;
 use crate::scratch::IgnoreScratch;
 use crate::two_rules::DecidesAlone;
-use globset::Error;
-use std::alloc::Global;
+use std::alloc::{AllocError, Global};
 
 /// The rules of an ignore file, and the folder of the file.
 #[derive(Drop)]
@@ -28,17 +25,20 @@ impl FolderRules {
         alloc: Global,
         folder: &[u8],
         file: &[u8],
+        ignore_case: bool,
         scratch: &mut IgnoreScratch,
-    ) -> Result<FolderRules, Error>
+    ) -> Result<FolderRules, AllocError>
         ensures file { IfOk result
-            (λ r. file_of r ≡ record { folder = folder.now; bytes = file.now }) }
+            (λ r. file_of r
+            ≡ record { folder = folder.now; bytes = file.now; ignore_case = ignore_case }) }
         ensures fits { IfOk result (λ r. FitsRules scratch.new r.rules) }
         ensures others { FitsAsBefore scratch.old scratch.new }
-        ensures err { IsOkUnless result out_of_memory }
     {
-        let rules = Rules::new(alloc, file)?;
+        let rules = Rules::read(alloc, file, ignore_case)?;
         let folder = folder.to_vec(alloc)?;
         scratch.fit(&rules)?;
+        // Also where the scratch had room for it before, or the file's automaton would be stepped.
+        rules.keep_cache();
         Ok(FolderRules { folder, rules })
     }
 

@@ -1,5 +1,4 @@
-//! Ignore files, read as git reads them, except for lines that no glob can stand for. Those have no rule, and
-//! [`Rules::unread_lines`] returns their numbers.
+//! Ignore files, read as git reads them. [`RulesBuilder`] has git's setting `core.ignoreCase` as an option.
 //!
 //! [`Rules`] are the rules of a file, which decide about paths below its folder:
 //!
@@ -13,8 +12,9 @@
 //! assert_eq!(rt; rules.decide_once(b"out", false)?, Decision::Undecided);
 //! assert_eq!(rt; rules.decide_once(b"out", true)?, Decision::Ignored);
 //!
-//! // A class that is not closed, and a line that is not UTF-8.
-//! assert_eq!(rt; rules.unread_lines(), [6, 7].as_slice());
+//! // A class that is not closed. A line need not be UTF-8.
+//! assert_eq!(rt; rules.unread_lines(), [6].as_slice());
+//! assert_eq!(rt; rules.deciding_line_once(b"\xff", false)?, Some(7));
 //!
 //! // Of the folders above `a/b/c`, which end before the second and the fourth byte, `a` is kept, and `a/b` is ignored.
 //! let rules = Rules::new(alloc, b"*\n!/a/\n")?;
@@ -41,7 +41,7 @@
 //! ```rust
 //! use git_ignore::{Decision, IgnoreStack};
 //!
-//! let mut stack = IgnoreStack::new(alloc)?;
+//! let mut stack = IgnoreStack::new(alloc);
 //! stack.add_file(b"*.o\nout/\n**/k/**/m/\n")?;
 //! assert_eq!(rt; stack.decide(b"a.o", false)?, Decision::Ignored);
 //! assert_eq!(rt; stack.decide(b"out/x", false)?, Decision::Ignored);
@@ -71,6 +71,7 @@
 //! ```
 #![tactic(auto)]
 
+mod builder;
 mod decision;
 mod entry;
 mod folder_rules;
@@ -84,6 +85,7 @@ mod stored;
 mod tests;
 mod two_rules;
 
+pub use builder::RulesBuilder;
 pub use decision::Decision;
 pub use rules::Rules;
 pub use scratch::IgnoreScratch;

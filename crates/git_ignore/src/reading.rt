@@ -1,50 +1,46 @@
 //! Rules as they are read, line by line.
 
-ghost use Rattle.std.specs.Prelude.{◌≡◌, ◌<◌, ◌++◌, ◌∷◌, [], ◌+◌, ◌≤◌, ◌^◌, List, length, IfOk, IsOkUnless, OnOk};
-ghost use Rattle.globset.specs.Errors.{out_of_memory};
-ghost use Rattle.globset.specs.SetValue.{set_globs};
+ghost use Rattle.std.specs.Prelude.{◌≡◌, ◌++◌, ◌∷◌, [], OnOk};
 ghost use Rattle.ignore_pattern.specs.Lines.{lines_of, without_byte_order_mark};
-ghost use Rattle.ignore_pattern.specs.Patterns.{read_pattern};
-ghost use Rattle.git_ignore.specs.Rules.{Rule, rules_from};
-ghost use Rattle.git_ignore.specs.inner.Entries.{AddsRules, AreEntriesOf, rule_at};
+ghost use Rattle.ignore_pattern.specs.Patterns.{pattern_of_line};
+ghost use Rattle.git_ignore.specs.Rules.{rules_from};
+ghost use Rattle.git_ignore.specs.inner.Entries.{AddsRules, ArePartsOf, entry_of, rule_at};
 
 use crate::entry::RuleEntry;
-use globset::{Error, Glob, GlobSet, GlobSetBuilder};
 use ignore_pattern::{IgnorePattern, pattern_of_line};
 use memchr::memchr;
-use std::alloc::Global;
+use std::alloc::{AllocError, Global};
 
 /// The bytes that some editors put at the start of a text.
 const BYTE_ORDER_MARK: &[u8] = b"\xef\xbb\xbf";
 
-/// The rules that were read so far: their globs, and an entry for each.
+/// The rules that were read so far: their patterns, and an entry for each.
 #[derive(Drop)]
-pub struct RulesBuilder {
-    pub globs: Vec<Glob>,
+pub struct FileRules {
+    pub patterns: Vec<IgnorePattern>,
     pub entries: Vec<RuleEntry>,
-    /// The numbers of lines that match nothing, and are neither blank nor a comment.
+    /// The numbers of lines without a pattern that are neither blank nor a comment.
     pub unread: Vec<usize>,
 }
 
-impl RulesBuilder {
+impl FileRules {
     /// Returns no rules. It allocates nothing.
-    pub fn new(alloc: Global) -> RulesBuilder
-        ensures { AreEntriesOf [] result.globs.items result.entries.items }
+    pub fn new(alloc: Global) -> FileRules
+        ensures { ArePartsOf [] result.patterns.items result.entries.items }
     {
-        RulesBuilder {
-            globs: Vec::new(alloc),
+        FileRules {
+            patterns: Vec::new(alloc),
             entries: Vec::new(alloc),
             unread: Vec::new(alloc),
         }
     }
 
     /// Adds the rules of some lines. The first line has the number 1.
-    pub fn push_lines(&mut self, alloc: Global, bytes: &[u8]) -> Result<(), Error>
-        requires { AreEntriesOf [] self.old.globs.items self.old.entries.items }
-        ensures rules { OnOk result
-            (AreEntriesOf (rules_from 1 (lines_of bytes.now)) self.new.globs.items
+    pub fn push_lines(&mut self, alloc: Global, bytes: &[u8]) -> Result<(), AllocError>
+        requires { ArePartsOf [] self.old.patterns.items self.old.entries.items }
+        ensures { OnOk result
+            (ArePartsOf (rules_from 1 (lines_of bytes.now)) self.new.patterns.items
             self.new.entries.items) }
-        ensures err { IsOkUnless result out_of_memory }
     {
         let mut rest = bytes;
         let mut number = 1;
@@ -57,11 +53,10 @@ impl RulesBuilder {
     }
 
     /// Adds the rule of a line, if there is any.
-    fn push_line(&mut self, alloc: Global, number: usize, line: &[u8]) -> Result<(), Error>
-        ensures rule { OnOk result
-            (AddsRules (rule_at number (read_pattern line.now)) self.old.globs.items
-            self.old.entries.items self.new.globs.items self.new.entries.items) }
-        ensures err { IsOkUnless result out_of_memory }
+    fn push_line(&mut self, alloc: Global, number: usize, line: &[u8]) -> Result<(), AllocError>
+        ensures { OnOk result
+            (AddsRules (rule_at number (pattern_of_line line.now)) self.old.patterns.items
+            self.old.entries.items self.new.patterns.items self.new.entries.items) }
     {
         match pattern_of_line(alloc, line)? {
             Some(pattern) => self.push_rule(number, pattern),
@@ -70,68 +65,30 @@ impl RulesBuilder {
     }
 
     /// Adds a rule.
-    fn push_rule(&mut self, line: usize, pattern: IgnorePattern) -> Result<(), Error>
-        ensures glob { OnOk result
-            (self.new.globs.items ≡ self.old.globs.items ++ pattern.glob ∷ []) }
+    fn push_rule(&mut self, line: usize, pattern: IgnorePattern) -> Result<(), AllocError>
+        ensures pattern { OnOk result
+            (self.new.patterns.items ≡ self.old.patterns.items ++ pattern ∷ []) }
         ensures entry { OnOk result
             (self.new.entries.items
             ≡ self.old.entries.items
-            ++ record {
-              line = line;
-              is_negated = pattern.is_negated;
-              is_folders_only = pattern.is_folders_only;
-            } ∷ []) }
-        ensures err { IsOkUnless result out_of_memory }
+            ++ entry_of (record { line = line; pattern = pattern }) ∷ []) }
     {
-        let IgnorePattern {
-            glob,
-            is_negated,
-            is_folders_only,
-        } = pattern;
-        self.entries.push(RuleEntry {
-            line,
-            is_negated,
-            is_folders_only,
-        })?;
-        Ok(self.globs.push(glob)?)
+        self.entries.push(RuleEntry::new(line, &pattern))?;
+        self.patterns.push(pattern)?;
+        Ok(())
     }
 
-    /// Returns the globs, the entries, and the numbers of unread lines.
-    pub fn into_parts(self) -> (Vec<Glob>, Vec<RuleEntry>, Vec<usize>)
-        ensures globs { result.0.items ≡ self.globs.items }
-        ensures entries { result.1.items ≡ self.entries.items }
-    {
-        let RulesBuilder {
-            globs,
-            entries,
-            unread,
-        } = self;
-        (globs, entries, unread)
-    }
-
-    /// Keeps the number of a line that matches nothing, unless it is blank or a comment.
-    fn push_unread(&mut self, number: usize, line: &[u8]) -> Result<(), Error>
-        ensures globs { self.new.globs.items ≡ self.old.globs.items }
+    /// Keeps the number of a line without a pattern, unless it is blank or a comment.
+    fn push_unread(&mut self, number: usize, line: &[u8]) -> Result<(), AllocError>
+        ensures patterns { self.new.patterns.items ≡ self.old.patterns.items }
         ensures entries { self.new.entries.items ≡ self.old.entries.items }
-        ensures err { IsOkUnless result out_of_memory }
     {
         if is_plain_line(line) {
             return Ok(());
         }
-        Ok(self.unread.push(number)?)
+        self.unread.push(number)?;
+        Ok(())
     }
-}
-
-/// Returns the set of globs.
-pub fn set_of(alloc: Global, globs: Vec<Glob>) -> Result<GlobSet, Error>
-    ensures globs { IfOk result (λ set. set_globs set ≡ globs.items) }
-    ensures err { IsOkUnless result out_of_memory }
-{
-    let mut builder = GlobSetBuilder::new(alloc);
-    for glob in globs {
-        builder.push(glob)?;
-    }
-    builder.into_set()
 }
 
 /// Returns the bytes of a file without a byte order mark at their start.

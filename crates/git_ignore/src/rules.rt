@@ -1,21 +1,19 @@
 //! The rules of an ignore file.
 
 ghost use Rattle.std.specs.Arc.{arc_value};
-ghost use Rattle.std.specs.Prelude.{◌≡◌, true, IfOk, IsOkUnless, OnOk, OnErr};
-ghost use Rattle.globset.specs.Errors.{out_of_memory};
+ghost use Rattle.std.specs.Prelude.{◌≡◌, true, false, IfOk, OnOk, OnErr};
 ghost use Rattle.git_ignore.specs.FolderDecisions.{ArePut};
-ghost use Rattle.git_ignore.specs.Rules.{deciding_line, decision, last_rule, rules_of};
-ghost use Rattle.git_ignore.specs.RulesValue.{FitsRules};
+ghost use Rattle.git_ignore.specs.Rules.{deciding_line, last_rule, rules_of};
+ghost use Rattle.git_ignore.specs.RulesValue.{FitsRules, rules_decision};
 ghost use Rattle.git_ignore.specs.TwoRules.{decision_below, nearest_decision};
-ghost use Rattle.git_ignore.specs.inner.Entries.{entry_of_rule};
+ghost use Rattle.git_ignore.specs.inner.Entries.{entry_of_rule, rules_value};
 
 use crate::decision::Decision;
 use crate::entry::{RuleEntry, decision_by, line_by};
-use crate::reading::{RulesBuilder, after_mark};
+use crate::reading::{FileRules, after_mark};
 use crate::scratch::IgnoreScratch;
 use crate::stored::StoredRules;
 use crate::two_rules::{self, DecidesAlone};
-use globset::{Candidate, Error, GlobSet, Visits};
 use std::alloc::{AllocError, Global};
 use std::marker::Model;
 use std::sync::Arc;
@@ -24,7 +22,7 @@ use std::sync::Arc;
 ///
 /// To decide about many paths, make a [`crate::RulesSearcher`] of them.
 ///
-/// Contracts see the bytes of the file, and the set of the globs of its rules.
+/// Contracts see the bytes of the file, whether case is ignored, and how much memory deciding takes.
 ///
 /// # Errors
 ///
@@ -42,21 +40,37 @@ impl Model for Rules {
 
     ghost Value = { RulesValue };
 
-    ghost view = { λ r. arc_value r.stored };
+    ghost use Rattle.git_ignore.specs.inner.Entries.{rules_value};
+
+    ghost view = { λ r. rules_value (arc_value r.stored) };
 }
 
 impl Rules {
-    /// Reads an ignore file, given by its bytes. Each line has a rule or none. Lines that git cannot read have none, and lines
-    /// that no glob can express, such as lines that are not UTF-8. That is no error: [`Rules::unread_lines`] returns their
-    /// numbers.
-    pub fn new(alloc: Global, file: &[u8]) -> Result<Rules, Error>
+    /// Reads an ignore file, given by its bytes. Each line has a rule or none. Lines that git cannot read have none, which is no
+    /// error: [`Rules::unread_lines`] returns their numbers. [`crate::RulesBuilder`] has an option.
+    ///
+    /// It takes time and memory linear in the bytes, except for classes: each item of a class takes 256 steps.
+    pub fn new(alloc: Global, file: &[u8]) -> Result<Rules, AllocError>
         ensures file { IfOk result (λ r. r.file ≡ file.now) }
-        ensures err { IsOkUnless result out_of_memory }
+        ensures ignore_case { IfOk result (λ r. r.ignore_case ≡ false) }
     {
-        let mut builder = RulesBuilder::new(alloc);
-        builder.push_lines(alloc, after_mark(file))?;
-        let (globs, entries, unread) = builder.into_parts();
-        let stored = Arc::new(alloc, StoredRules::new(alloc, globs, entries, file)?)?;
+        Rules::read(alloc, file, false)
+    }
+
+    /// Reads an ignore file, whose rules ignore case or not.
+    pub(crate) fn read(alloc: Global, file: &[u8], ignore_case: bool) -> Result<Rules, AllocError>
+        ensures file { IfOk result (λ r. r.file ≡ file.now) }
+        ensures ignore_case { IfOk result (λ r. r.ignore_case ≡ ignore_case) }
+    {
+        let mut read = FileRules::new(alloc);
+        read.push_lines(alloc, after_mark(file))?;
+        let FileRules {
+            patterns,
+            entries,
+            unread,
+        } = read;
+        let stored = StoredRules::new(alloc, &patterns, entries, file, ignore_case)?;
+        let stored = Arc::new(alloc, stored)?;
         Ok(Rules { stored, unread })
     }
 
@@ -67,7 +81,7 @@ impl Rules {
     /// afterwards.
     pub fn decide(&self, path: &[u8], is_folder: bool, scratch: &mut IgnoreScratch) -> Decision
         requires { FitsRules scratch.old self.now }
-        ensures decision { result ≡ decision self.now.file path.now is_folder }
+        ensures decision { result ≡ rules_decision self.now path.now is_folder }
         ensures scratch { scratch.new ≡ scratch.old }
     {
         decision_by(self.last_entry(path, is_folder, scratch))
@@ -85,7 +99,7 @@ impl Rules {
         scratch: &mut IgnoreScratch,
     ) -> Decision
         requires { FitsRules scratch.old self.now }
-        ensures decision { result ≡ decision_below (decision self.now.file) path.now is_folder }
+        ensures decision { result ≡ decision_below (rules_decision self.now) path.now is_folder }
         ensures scratch { scratch.new ≡ scratch.old }
     {
         two_rules::decide_below(self, path, 0, is_folder, scratch)
@@ -115,7 +129,7 @@ impl Rules {
         scratch: &mut IgnoreScratch,
     ) -> Decision
         requires { FitsRules scratch.old self.now }
-        ensures decision { result ≡ nearest_decision (decision self.now.file) path.now is_folder }
+        ensures decision { result ≡ nearest_decision (rules_decision self.now) path.now is_folder }
         ensures scratch { scratch.new ≡ scratch.old }
     {
         two_rules::decide_nearest(self, path, is_folder, scratch)
@@ -129,25 +143,28 @@ impl Rules {
         scratch: &mut IgnoreScratch,
     ) -> Option<usize>
         requires { FitsRules scratch.old self.now }
-        ensures line { result ≡ deciding_line self.now.file path.now is_folder }
+        ensures line { result ≡ deciding_line self.now.ignore_case self.now.file path.now is_folder }
         ensures scratch { scratch.new ≡ scratch.old }
     {
         line_by(self.last_entry(path, is_folder, scratch))
     }
 
     /// Like [`Rules::decide`], with a scratch of its own.
-    pub fn decide_once(&self, path: &[u8], is_folder: bool) -> Result<Decision, Error>
-        ensures decision { IfOk result (λ d. d ≡ decision self.now.file path.now is_folder) }
-        ensures err { IsOkUnless result out_of_memory }
+    pub fn decide_once(&self, path: &[u8], is_folder: bool) -> Result<Decision, AllocError>
+        ensures decision { IfOk result (λ d. d ≡ rules_decision self.now path.now is_folder) }
     {
         let mut scratch = IgnoreScratch::new(self.stored.allocator(), self)?;
         Ok(self.decide(path, is_folder, &mut scratch))
     }
 
     /// Like [`Rules::deciding_line`], with a scratch of its own.
-    pub fn deciding_line_once(&self, path: &[u8], is_folder: bool) -> Result<Option<usize>, Error>
-        ensures line { IfOk result (λ n. n ≡ deciding_line self.now.file path.now is_folder) }
-        ensures err { IsOkUnless result out_of_memory }
+    pub fn deciding_line_once(
+        &self,
+        path: &[u8],
+        is_folder: bool,
+    ) -> Result<Option<usize>, AllocError>
+        ensures line { IfOk result
+            (λ n. n ≡ deciding_line self.now.ignore_case self.now.file path.now is_folder) }
     {
         let mut scratch = IgnoreScratch::new(self.stored.allocator(), self)?;
         Ok(self.deciding_line(path, is_folder, &mut scratch))
@@ -166,12 +183,11 @@ impl Rules {
         path: &[u8],
         start: usize,
         decisions: &mut [Decision],
-    ) -> Result<(), Error>
+    ) -> Result<(), AllocError>
         ensures put { OnOk result
-            (ArePut (λ folder. decision self.now.file folder true) path.now start decisions.old
+            (ArePut (λ folder. rules_decision self.now folder true) path.now start decisions.old
             decisions.new) }
         ensures kept { OnErr result (decisions.new ≡ decisions.old) }
-        ensures err { IsOkUnless result out_of_memory }
     {
         let mut scratch = IgnoreScratch::new(self.stored.allocator(), self)?;
         for end in start..path.len().min(decisions.len()) {
@@ -182,8 +198,8 @@ impl Rules {
         Ok(())
     }
 
-    /// Returns the numbers, counted from 1, of the lines that match nothing and are neither blank nor a comment: lines that git
-    /// cannot read, and lines that no glob can express.
+    /// Returns the numbers, counted from 1, of the lines that git cannot read: those without a pattern that are neither blank nor
+    /// a comment.
     pub fn unread_lines(&self) -> &[usize] {
         &self.unread
     }
@@ -197,43 +213,46 @@ impl Rules {
     ) -> Option<RuleEntry>
         requires { FitsRules scratch.old self.now }
         ensures entry { result
-            ≡ entry_of_rule (last_rule path.now is_folder (rules_of self.now.file)) }
+            ≡ entry_of_rule
+            (last_rule self.now.ignore_case path.now is_folder (rules_of self.now.file)) }
         ensures scratch { scratch.new ≡ scratch.old }
     {
-        let path = Candidate::from_bytes(path);
-        self.set()
-            .matches_into_with(
-                &path,
-                &mut scratch.scratch,
-                &mut scratch.matching,
-                &mut Visits::new(),
-            )
-            .unwrap();
-        self.stored.last_entry(&scratch.matching, is_folder)
+        self.stored.last_entry(path, is_folder, scratch, &mut None)
     }
 
-    /// Returns the set of the globs.
-    pub(crate) fn set(&self) -> &GlobSet
-        ensures { result.now ≡ self.now.set }
+    /// Returns the number of states of the automaton.
+    pub(crate) fn state_count(&self) -> usize
+        ensures { result ≡ self.now.states }
     {
-        self.stored.set()
+        self.stored.state_count()
+    }
+
+    /// Returns the number of rules.
+    pub(crate) fn rule_count(&self) -> usize
+        ensures { result ≡ self.now.rules }
+    {
+        self.stored.rule_count()
+    }
+
+    /// Keeps rows for calls, as far as there is memory for them.
+    pub(crate) fn keep_cache(&self) {
+        self.stored.keep_cache();
     }
 
     /// Returns what searchers share with the rules. Fails only if 2^63 values share it.
     pub(crate) fn share(&self) -> Result<Arc<StoredRules>, AllocError>
-        ensures { IfOk result (λ stored. arc_value stored ≡ self.now) }
+        ensures { IfOk result (λ stored. rules_value (arc_value stored) ≡ self.now) }
     {
         Arc::try_clone(&self.stored)
     }
 }
 
 impl DecidesAlone for Rules {
-    ghost use Rattle.git_ignore.specs.Rules.{decision};
-    ghost use Rattle.git_ignore.specs.RulesValue.{FitsRules};
+    ghost use Rattle.git_ignore.specs.RulesValue.{FitsRules, rules_decision};
 
     ghost fits = { FitsRules };
 
-    ghost alone = { λ rules. decision rules.file };
+    ghost alone = { rules_decision };
 
     fn decide_alone(&self, path: &[u8], is_folder: bool, scratch: &mut IgnoreScratch) -> Decision {
         self.decide(path, is_folder, scratch)

@@ -1,58 +1,65 @@
-//! Memory that rules match with.
+//! Memory to decide with.
 
-ghost use Rattle.std.specs.Prelude.{◌≡◌, ◌↔◌, IsTrue, IfOk, IsOk, IsOkUnless, OnOk, OnErr};
-ghost use Rattle.globset.specs.Errors.{out_of_memory};
-ghost use Rattle.globset.specs.SetValue.{Fits, FitsAsBefore};
-ghost use Rattle.git_ignore.specs.RulesValue.{FitsRules};
+ghost use Rattle.std.specs.Prelude.{◌≡◌, ◌↔◌, IfOk, IsOk, OnOk, OnErr, IsTrue};
+ghost use Rattle.git_ignore.specs.RulesValue.{FitsAsBefore, FitsRules};
 
 use crate::rules::Rules;
-use globset::{Error, GlobSet, Scratch};
-use std::alloc::Global;
+use bit_sets::IndexSet;
+use lazy_dfa::StateSets;
+use std::alloc::{AllocError, Global};
 use std::marker::Model;
 
-/// All the memory that rules need to decide about a path: a [`Scratch`], and a number for each rule.
+/// All the memory that rules need to decide about a path: two bits for each state of their automaton, and a bit for each rule. The
+/// automaton has about as many states as the patterns of the file have characters.
 ///
 /// With a scratch that fits the rules, [`Rules::decide`] cannot fail. What earlier calls left in it has no effect. It serves all
 /// rules that it fits ([`IgnoreScratch::fits`]), and [`IgnoreScratch::fit`] makes it fit more rules.
 ///
-/// # Errors
-///
-/// Calls that return a [`Result`] fail only if memory runs out.
+/// Contracts see two numbers: of states, and of rules.
 #[derive(Drop)]
 pub struct IgnoreScratch {
-    pub(crate) scratch: Scratch,
-    /// The indexes of the rules whose globs match a path.
-    pub(crate) matching: Vec<usize>,
+    states: usize,
+    rules: usize,
+    /// The states that the automaton is in, where it is stepped.
+    pub(crate) sets: StateSets,
+    /// The indexes of the rules whose patterns match.
+    pub(crate) found: IndexSet,
 }
 
 impl Model for IgnoreScratch {
-    ghost use Rattle.std.specs.Prelude.{◌≤◌, vec_capacity};
-    ghost use Rattle.globset.specs.SetValue.{ScratchValue};
+    ghost use Rattle.std.specs.Prelude.{◌≤◌};
+    ghost use Rattle.bit_sets.specs.Indexes.{index_capacity};
+    ghost use Rattle.lazy_dfa.specs.Sets.{sets_capacity};
+    ghost use Rattle.git_ignore.specs.RulesValue.{ScratchValue};
 
     ghost Value = { ScratchValue };
 
-    ghost view = { λ s. s.scratch };
+    ghost view = { λ s. record {
+      states = s.states;
+      rules = s.rules;
+    } };
 
-    ghost invariant = { λ s. s.scratch.indexes ≤ vec_capacity s.matching };
+    ghost invariant = { λ s. (s.states ≤ sets_capacity s.sets) × (s.rules ≤ index_capacity s.found) };
 }
 
 impl IgnoreScratch {
-    /// Returns a scratch that fits the rules.
-    pub fn new(alloc: Global, rules: &Rules) -> Result<IgnoreScratch, Error>
-        ensures fits { IfOk result (λ s. FitsRules s rules.now) }
-        ensures err { IsOkUnless result out_of_memory }
-    {
-        IgnoreScratch::for_set(alloc, rules.set())
+    /// Returns a scratch without room. It allocates nothing.
+    pub(crate) fn empty(alloc: Global) -> IgnoreScratch {
+        IgnoreScratch {
+            states: 0,
+            rules: 0,
+            sets: StateSets::new(alloc),
+            found: IndexSet::empty(alloc),
+        }
     }
 
-    /// Returns a scratch that fits rules with this set.
-    pub(crate) fn for_set(alloc: Global, set: &GlobSet) -> Result<IgnoreScratch, Error>
-        ensures fits { IfOk result (λ s. Fits s set.now) }
-        ensures err { IsOkUnless result out_of_memory }
+    /// Returns a scratch that fits the rules. Fails only if memory runs out.
+    pub fn new(alloc: Global, rules: &Rules) -> Result<IgnoreScratch, AllocError>
+        ensures { IfOk result (λ s. FitsRules s rules.now) }
     {
-        let scratch = Scratch::new(alloc, set)?;
-        let matching = Vec::with_capacity(alloc, set.len())?;
-        Ok(IgnoreScratch { scratch, matching })
+        let mut scratch = IgnoreScratch::empty(alloc);
+        scratch.fit(rules)?;
+        Ok(scratch)
     }
 
     /// Returns whether the scratch fits the rules. It fits the rules that it was made for.
@@ -71,22 +78,29 @@ impl IgnoreScratch {
     pub fn fits(&self, rules: &Rules) -> bool
         ensures { IsTrue result ↔ FitsRules self.now rules.now }
     {
-        self.scratch.fits(rules.set())
+        rules.state_count() <= self.states && rules.rule_count() <= self.rules
     }
 
-    /// Makes the scratch fit more rules. It does not allocate if it fits them already.
+    /// Makes the scratch fit more rules. It does not allocate if it fits them already. Otherwise the rules also get memory for
+    /// rows, if there is enough.
     ///
     /// Fails only if memory runs out. The scratch then fits the same rules as before.
-    pub fn fit(&mut self, rules: &Rules) -> Result<(), Error>
+    pub fn fit(&mut self, rules: &Rules) -> Result<(), AllocError>
         ensures fits { OnOk result (FitsRules self.new rules.now) }
         ensures others { FitsAsBefore self.old self.new }
         ensures kept { OnErr result (self.new ≡ self.old) }
         ensures succeeds_if_fits { FitsRules self.old rules.now → IsOk result }
-        ensures err { IsOkUnless result out_of_memory }
     {
-        let set = rules.set();
-        self.matching.clear();
-        self.matching.reserve(set.len())?;
-        self.scratch.fit(set)
+        let states = self.states.max(rules.state_count());
+        let count = self.rules.max(rules.rule_count());
+        self.sets.reserve(states)?;
+        self.found.reserve(count)?;
+        // What fitted before takes no memory, for rows either.
+        if states > self.states || count > self.rules {
+            rules.keep_cache();
+        }
+        self.states = states;
+        self.rules = count;
+        Ok(())
     }
 }

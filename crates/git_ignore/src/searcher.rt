@@ -1,25 +1,26 @@
 //! The rules of a file with the memory to decide with.
 
-ghost use Rattle.std.specs.Prelude.{◌≡◌, true, IfOk, IsOkUnless};
-ghost use Rattle.globset.specs.Errors.{out_of_memory};
+ghost use Rattle.std.specs.Prelude.{◌≡◌, true, IfOk};
 ghost use Rattle.git_ignore.specs.FolderDecisions.{ArePut};
-ghost use Rattle.git_ignore.specs.Rules.{deciding_line, decision, last_rule, rules_of};
+ghost use Rattle.git_ignore.specs.Rules.{deciding_line, last_rule, rules_of};
+ghost use Rattle.git_ignore.specs.RulesValue.{rules_decision};
 ghost use Rattle.git_ignore.specs.inner.Entries.{entry_of_rule};
 
 use crate::decision::Decision;
 use crate::entry::{RuleEntry, decision_by, line_by};
 use crate::rules::Rules;
+use crate::scratch::IgnoreScratch;
 use crate::stored::StoredRules;
-use globset::{Candidate, Error, Searcher};
-use std::alloc::Global;
+use lazy_dfa::Cache;
+use std::alloc::{AllocError, Global};
 use std::marker::Model;
 use std::sync::Arc;
 
 /// [`Rules`] with all the memory that a thread needs to decide about paths. [`RulesSearcher::new`] allocates it: no other call
 /// allocates, and none can fail.
 ///
-/// Searchers of the same rules share their globs and entries, and outlive the rules. A program with several threads makes a
-/// searcher for each thread. A [`Searcher`] in it keeps rows of automata from path to path.
+/// Searchers of the same rules share these, and outlive the value that they were made of. A program with several threads makes a
+/// searcher for each thread. A searcher keeps rows of the automaton from path to path.
 ///
 /// Contracts see a searcher as they see its rules. Nothing that earlier calls left in it has an effect.
 ///
@@ -39,43 +40,52 @@ use std::sync::Arc;
 #[derive(Drop)]
 pub struct RulesSearcher {
     stored: Arc<StoredRules>,
-    searcher: Searcher,
+    scratch: IgnoreScratch,
+    /// The rows, if the automaton has any.
+    cache: Option<Cache>,
 }
 
 impl Model for RulesSearcher {
     ghost use Rattle.std.specs.Arc.{arc_value};
-    ghost use Rattle.std.specs.Prelude.{◌≡◌};
     ghost use Rattle.git_ignore.specs.RulesValue.{RulesValue};
+    ghost use Rattle.git_ignore.specs.inner.Entries.{IsSearcherOf, rules_value};
 
     ghost Value = { RulesValue };
 
-    ghost view = { λ s. arc_value s.stored };
+    ghost view = { λ s. rules_value (arc_value s.stored) };
 
-    ghost invariant = { λ s. s.searcher.set ≡ (arc_value s.stored).set };
+    ghost invariant = { λ s. IsSearcherOf (arc_value s.stored) s.scratch s.cache };
 }
 
 impl RulesSearcher {
-    /// Returns a searcher of the rules, which shares their globs and entries. It takes as much memory as a [`Searcher`] of their
-    /// globs.
+    /// Returns a searcher of the rules, which shares them. It takes as much memory as an [`IgnoreScratch`], and for rows 4 MiB; more
+    /// only if the automaton has so many states that no row would fit.
     ///
     /// Fails only if memory runs out or 2^63 searchers share the rules.
-    pub fn new(alloc: Global, rules: &Rules) -> Result<RulesSearcher, Error>
-        ensures rules { IfOk result (λ s. s ≡ rules.now) }
-        ensures err { IsOkUnless result out_of_memory }
+    pub fn new(alloc: Global, rules: &Rules) -> Result<RulesSearcher, AllocError>
+        ensures { IfOk result (λ s. s ≡ rules.now) }
     {
         let stored = rules.share()?;
-        let searcher = Searcher::new(alloc, stored.set())?;
-        Ok(RulesSearcher { stored, searcher })
+        let scratch = IgnoreScratch::new(alloc, rules)?;
+        let cache = stored.new_cache(alloc)?;
+        Ok(RulesSearcher {
+            stored,
+            scratch,
+            cache,
+        })
     }
 
-    /// Returns how many bytes of memory the [`Searcher`] takes, as [`Searcher::bytes`] counts them.
+    /// Returns how many bytes of memory its rows take.
     pub fn bytes(&self) -> usize {
-        self.searcher.bytes()
+        match &self.cache {
+            Some(cache) => cache.bytes(),
+            None => 0,
+        }
     }
 
     /// Returns the decision of the file about a path below its folder, as [`Rules::decide`] does.
     pub fn decide(&mut self, path: &[u8], is_folder: bool) -> Decision
-        ensures decision { result ≡ decision self.old.file path.now is_folder }
+        ensures decision { result ≡ rules_decision self.old path.now is_folder }
         ensures kept { self.new ≡ self.old }
     {
         decision_by(self.last_entry(path, is_folder))
@@ -83,7 +93,7 @@ impl RulesSearcher {
 
     /// Returns the number of the line that decides about a path, as [`Rules::deciding_line`] does.
     pub fn deciding_line(&mut self, path: &[u8], is_folder: bool) -> Option<usize>
-        ensures line { result ≡ deciding_line self.old.file path.now is_folder }
+        ensures line { result ≡ deciding_line self.old.ignore_case self.old.file path.now is_folder }
         ensures kept { self.new ≡ self.old }
     {
         line_by(self.last_entry(path, is_folder))
@@ -91,7 +101,7 @@ impl RulesSearcher {
 
     /// Decides about each folder above a path, as [`Rules::decide_folders`] does.
     pub fn decide_folders(&mut self, path: &[u8], start: usize, decisions: &mut [Decision])
-        ensures put { ArePut (λ folder. decision self.old.file folder true) path.now start
+        ensures put { ArePut (λ folder. rules_decision self.old folder true) path.now start
             decisions.old decisions.new }
         ensures kept { self.new ≡ self.old }
     {
@@ -105,10 +115,11 @@ impl RulesSearcher {
     /// Returns the entry of the last rule that applies to a path.
     fn last_entry(&mut self, path: &[u8], is_folder: bool) -> Option<RuleEntry>
         ensures entry { result
-            ≡ entry_of_rule (last_rule path.now is_folder (rules_of self.old.file)) }
+            ≡ entry_of_rule
+            (last_rule self.old.ignore_case path.now is_folder (rules_of self.old.file)) }
         ensures kept { self.new ≡ self.old }
     {
-        self.searcher.find(&Candidate::from_bytes(path));
-        self.stored.last_entry(self.searcher.found(), is_folder)
+        self.stored
+            .last_entry(path, is_folder, &mut self.scratch, &mut self.cache)
     }
 }

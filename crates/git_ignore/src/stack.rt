@@ -1,7 +1,6 @@
 //! Ignore files of nested folders.
 
-ghost use Rattle.std.specs.Prelude.{◌≡◌, ◌++◌, ◌∷◌, [], true, IfOk, IsOkUnless, OnOk, OnErr, length, take};
-ghost use Rattle.globset.specs.Errors.{out_of_memory};
+ghost use Rattle.std.specs.Prelude.{◌≡◌, ◌++◌, ◌∷◌, [], true, false, IfOk, OnOk, OnErr, length, take};
 ghost use Rattle.git_ignore.specs.Folders.{files_decision};
 ghost use Rattle.git_ignore.specs.StackValue.{at_top, entered, left, stack_files, with_file};
 ghost use Rattle.git_ignore.specs.TwoRules.{decision_below, ignores, is_below_ignored, nearest_decision};
@@ -10,7 +9,6 @@ use crate::decision::Decision;
 use crate::folder_rules::FolderRules;
 use crate::scratch::IgnoreScratch;
 use crate::two_rules::{decide_below, decide_nearest};
-use globset::{Error, GlobSet};
 use std::alloc::{AllocError, Global};
 use std::marker::Model;
 
@@ -38,7 +36,7 @@ pub struct FolderLevel {
 /// path for each ignore file above it. A path through folders that were not entered also costs such passes for each of these
 /// folders, down to the first that is ignored. The time grows with the square of their number.
 ///
-/// All files share an [`IgnoreScratch`]. The rules of each keep rows between calls, as a [`GlobSet`] does.
+/// All files share an [`IgnoreScratch`]. The rules of each keep rows between calls.
 ///
 /// # Errors
 ///
@@ -55,6 +53,7 @@ pub struct IgnoreStack {
     /// The folders above, from the top down.
     levels: Vec<FolderLevel>,
     scratch: IgnoreScratch,
+    ignore_case: bool,
 }
 
 impl Model for IgnoreStack {
@@ -64,26 +63,32 @@ impl Model for IgnoreStack {
 
     ghost use Rattle.git_ignore.specs.inner.StackParts.{IsStack, stack_value};
 
-    ghost view = { λ s. stack_value s.folder.items s.files.items s.levels.items };
+    ghost view = { λ s. stack_value s.ignore_case s.folder.items s.files.items s.levels.items };
 
-    ghost invariant = { λ s. IsStack s.folder.items s.is_ignored s.files.items s.levels.items s.scratch };
+    ghost invariant = { λ s. IsStack s.ignore_case s.folder.items s.is_ignored s.files.items s.levels.items s.scratch };
 }
 
 impl IgnoreStack {
-    /// Returns a walk in its top folder, which has no ignore files yet.
-    pub fn new(alloc: Global) -> Result<IgnoreStack, Error>
-        ensures top { IfOk result (λ s. s ≡ at_top) }
-        ensures err { IsOkUnless result out_of_memory }
+    /// Returns a walk in its top folder, which has no ignore files yet. It allocates nothing. [`crate::RulesBuilder`] has an option.
+    pub fn new(alloc: Global) -> IgnoreStack
+        ensures { result ≡ at_top false }
     {
-        let scratch = IgnoreScratch::for_set(alloc, &GlobSet::empty())?;
-        Ok(IgnoreStack {
+        IgnoreStack::with_case(alloc, false)
+    }
+
+    /// Returns a walk whose rules ignore case or not.
+    pub(crate) fn with_case(alloc: Global, ignore_case: bool) -> IgnoreStack
+        ensures { result ≡ at_top ignore_case }
+    {
+        IgnoreStack {
             alloc,
             folder: Vec::new(alloc),
             is_ignored: false,
             files: Vec::new(alloc),
             levels: Vec::new(alloc),
-            scratch,
-        })
+            scratch: IgnoreScratch::empty(alloc),
+            ignore_case,
+        }
     }
 
     /// Returns the path of the folder that the walk is in, from the top folder on: empty for this, and otherwise with `/` at its
@@ -106,12 +111,17 @@ impl IgnoreStack {
     /// there already.
     ///
     /// After an error nothing has changed.
-    pub fn add_file(&mut self, file: &[u8]) -> Result<(), Error>
+    pub fn add_file(&mut self, file: &[u8]) -> Result<(), AllocError>
         ensures added { OnOk result (self.new ≡ with_file self.old file.now) }
         ensures kept { OnErr result (self.new ≡ self.old) }
-        ensures err { IsOkUnless result out_of_memory }
     {
-        let rules = FolderRules::new(self.alloc, &self.folder, file, &mut self.scratch)?;
+        let rules = FolderRules::new(
+            self.alloc,
+            &self.folder,
+            file,
+            self.ignore_case,
+            &mut self.scratch,
+        )?;
         self.files.push(rules)?;
         Ok(())
     }
@@ -119,10 +129,9 @@ impl IgnoreStack {
     /// Goes down into a folder of this name. If it is ignored by git's rule, its ignore files have no effect by this rule.
     ///
     /// After an error nothing has changed.
-    pub fn enter(&mut self, name: &[u8]) -> Result<(), Error>
+    pub fn enter(&mut self, name: &[u8]) -> Result<(), AllocError>
         ensures entered { OnOk result (self.new ≡ entered self.old name.now) }
         ensures kept { OnErr result (self.new ≡ self.old) }
-        ensures err { IsOkUnless result out_of_memory }
     {
         let decision = self.decide(name, true)?;
         self.push_level(name, decision.is_ignored())?;
@@ -146,12 +155,11 @@ impl IgnoreStack {
     /// The folders that the path names above its last component count, too: below an ignored folder, the path is ignored.
     ///
     /// The call allocates to put the folder's path in front of this path.
-    pub fn decide(&mut self, path: &[u8], is_folder: bool) -> Result<Decision, Error>
+    pub fn decide(&mut self, path: &[u8], is_folder: bool) -> Result<Decision, AllocError>
         ensures decision { IfOk result
             (λ d. d ≡ decision_below (files_decision (stack_files self.old)) (self.old.here.path ++ path.now)
             is_folder) }
         ensures same { self.new ≡ self.old }
-        ensures err { IsOkUnless result out_of_memory }
     {
         if self.is_ignored {
             return Ok(Decision::Ignored);
@@ -178,12 +186,11 @@ impl IgnoreStack {
     ///
     /// The call allocates as [`IgnoreStack::decide`] does. It takes a pass over the path for each ignore file above it, and then
     /// such passes for the folders above it, from the nearest up to the first with a decision.
-    pub fn decide_nearest(&mut self, path: &[u8], is_folder: bool) -> Result<Decision, Error>
+    pub fn decide_nearest(&mut self, path: &[u8], is_folder: bool) -> Result<Decision, AllocError>
         ensures decision { IfOk result
             (λ d. d ≡ nearest_decision (files_decision (stack_files self.old))
             (self.old.here.path ++ path.now) is_folder) }
         ensures same { self.new ≡ self.old }
-        ensures err { IsOkUnless result out_of_memory }
     {
         let start = self.folder.len();
         self.folder.extend_from_slice(path)?;

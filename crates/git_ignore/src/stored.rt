@@ -1,59 +1,69 @@
 //! The part of rules that their searchers share.
 
-ghost use Rattle.std.specs.Prelude.{◌≡◌, ℕ, List, true, IfOk, IsOkUnless};
-ghost use Rattle.globset.specs.Answer.{matching_indexes};
-ghost use Rattle.globset.specs.Errors.{out_of_memory};
-ghost use Rattle.globset.specs.SetValue.{set_globs};
+ghost use Rattle.std.specs.Prelude.{◌≡◌, IfOk, IfSome};
 ghost use Rattle.git_ignore.specs.Rules.{last_rule, rules_of};
-ghost use Rattle.git_ignore.specs.inner.Entries.{AreEntriesOf, entry_of_rule};
+ghost use Rattle.git_ignore.specs.RulesValue.{FitsRules};
+ghost use Rattle.git_ignore.specs.inner.Entries.{ArePartsOf, entry_of_rule, rules_value};
 
 use crate::entry::{RuleEntry, last_entry_for};
-use crate::reading::set_of;
-use globset::{Error, Glob, GlobSet};
-use std::alloc::Global;
+use crate::scratch::IgnoreScratch;
+use bit_sets::Visits;
+use glob_matching::{Compiled, DEFAULT_DFA_SIZE_LIMIT};
+use ignore_pattern::{IgnorePattern, automaton_of};
+use lazy_dfa::Cache;
+use std::alloc::{AllocError, Global};
 use std::marker::Model;
 
-/// The rules of an ignore file, and the set of their globs. A searcher of the rules has it, too, and memory of its own.
+/// The rules of an ignore file. A searcher of the rules has them, too, and memory of its own.
 #[derive(Drop)]
 pub struct StoredRules {
-    /// The globs of the rules, without those that match nothing.
-    set: GlobSet,
-    /// For each glob what its rule says.
+    /// The automaton of the rules' patterns. The pattern of a rule has the index of its entry.
+    automaton: Compiled,
     entries: Vec<RuleEntry>,
     file: Vec<u8>,
+    ignore_case: bool,
 }
 
 impl Model for StoredRules {
-    ghost use Rattle.globset.specs.SetValue.{set_globs};
+    ghost use Rattle.std.specs.Prelude.{length};
     ghost use Rattle.git_ignore.specs.Rules.{rules_of};
-    ghost use Rattle.git_ignore.specs.RulesValue.{RulesValue};
-    ghost use Rattle.git_ignore.specs.inner.Entries.{AreEntriesOf};
+    ghost use Rattle.git_ignore.specs.inner.Entries.{AreStored, StoredValue};
 
-    ghost Value = { RulesValue };
+    ghost Value = { StoredValue };
 
     ghost view = { λ r. record {
       file = r.file.items;
-      set = r.set;
+      ignore_case = r.ignore_case;
+      automaton = r.automaton;
+      rules = length r.entries.items;
     } };
 
-    ghost invariant = { λ r. AreEntriesOf (rules_of r.file.items) (set_globs r.set) r.entries.items };
+    ghost invariant = { λ r. AreStored r.ignore_case (rules_of r.file.items) r.automaton r.entries.items };
 }
 
 impl StoredRules {
-    /// Returns the stored form of rules with these globs and entries, which were read from a file.
+    /// Returns the stored form of rules with these patterns and entries, which were read from a file.
     pub fn new(
         alloc: Global,
-        globs: Vec<Glob>,
+        patterns: &[IgnorePattern],
         entries: Vec<RuleEntry>,
         file: &[u8],
-    ) -> Result<StoredRules, Error>
-        requires { AreEntriesOf (rules_of file.now) globs.items entries.items }
+        ignore_case: bool,
+    ) -> Result<StoredRules, AllocError>
+        requires { ArePartsOf (rules_of file.now) patterns.now entries.items }
         ensures file { IfOk result (λ r. r.file ≡ file.now) }
-        ensures err { IsOkUnless result out_of_memory }
+        ensures ignore_case { IfOk result (λ r. r.ignore_case ≡ ignore_case) }
     {
-        let set = set_of(alloc, globs)?;
+        let automaton = automaton_of(alloc, patterns, ignore_case)?;
+        let states = automaton.state_count();
+        let automaton = Compiled::new(alloc, DEFAULT_DFA_SIZE_LIMIT, automaton, states)?;
         let file = file.to_vec(alloc)?;
-        Ok(StoredRules { set, entries, file })
+        Ok(StoredRules {
+            automaton,
+            entries,
+            file,
+            ignore_case,
+        })
     }
 
     /// Returns the allocator of the memory that the rules take.
@@ -61,18 +71,59 @@ impl StoredRules {
         *self.file.allocator()
     }
 
-    /// Returns the set of the globs.
-    pub fn set(&self) -> &GlobSet
-        ensures { result.now ≡ self.now.set }
+    /// Returns the number of states of the automaton.
+    pub fn state_count(&self) -> usize
+        ensures { result ≡ (rules_value self.now).states }
     {
-        &self.set
+        self.automaton.state_count()
     }
 
-    /// Returns the entry of the last rule that applies to a path, by the indexes that the set finds for the path.
-    pub fn last_entry(&self, found: &[usize], is_folder: bool) -> Option<RuleEntry>
-        ensures { (path : List ℕ) → found.now ≡ matching_indexes (set_globs self.now.set) path →
-            result ≡ entry_of_rule (last_rule path is_folder (rules_of self.now.file)) }
+    /// Returns the number of rules.
+    pub fn rule_count(&self) -> usize
+        ensures { result ≡ self.now.rules }
     {
-        last_entry_for(&self.entries, found, is_folder)
+        self.entries.len()
+    }
+
+    /// Returns a cache for the automaton, or `None` if it has no rows.
+    pub fn new_cache(&self, alloc: Global) -> Result<Option<Cache>, AllocError>
+        ensures { IfOk result (λ made. IfSome made (λ cache. cache ≡ self.now.automaton)) }
+    {
+        self.automaton.new_cache(alloc)
+    }
+
+    /// Keeps a cache for calls without one, as far as there is memory for it.
+    pub fn keep_cache(&self) {
+        self.automaton.keep_cache();
+    }
+
+    /// Returns the entry of the last rule that applies to a path. It reads the rows of the cache, or without one the rows that are
+    /// kept between calls.
+    pub fn last_entry(
+        &self,
+        path: &[u8],
+        is_folder: bool,
+        scratch: &mut IgnoreScratch,
+        cache: &mut Option<Cache>,
+    ) -> Option<RuleEntry>
+        requires fits { FitsRules scratch.old (rules_value self.now) }
+        requires cache { IfSome cache.old (λ c. c ≡ self.now.automaton) }
+        ensures entry { result
+            ≡ entry_of_rule
+            (last_rule self.now.ignore_case path.now is_folder (rules_of self.now.file)) }
+        ensures scratch { scratch.new ≡ scratch.old }
+        ensures cache { cache.new ≡ cache.old }
+    {
+        scratch.found.clear();
+        self.automaton
+            .find(
+                path,
+                &mut scratch.sets,
+                cache,
+                &mut scratch.found,
+                &mut Visits::new(),
+            )
+            .unwrap();
+        last_entry_for(&self.entries, &scratch.found, is_folder)
     }
 }

@@ -1,8 +1,7 @@
 //! What no clause says: that calls succeed, and that a searcher outlives its rules.
 
-use crate::{Decision, IgnoreScratch, IgnoreStack, Rules, RulesSearcher};
-use globset::Error;
-use std::alloc::Global;
+use crate::{Decision, IgnoreScratch, IgnoreStack, Rules, RulesBuilder, RulesSearcher};
+use std::alloc::{AllocError, Global};
 
 const FILE: &[u8] = b"*.o\nout/\n!keep.o\n/top\n**/k/**/m/\n\n# no rule\ndoc/*.txt\n";
 
@@ -35,7 +34,7 @@ fn wrong_row(searcher: &mut RulesSearcher) -> Option<usize> {
 }
 
 #[test]
-fn searcher_outlives_its_rules(rt: HostRuntime) -> Result<(), Error> {
+fn searcher_outlives_its_rules(rt: HostRuntime) -> Result<(), AllocError> {
     let alloc = rt.alloc();
     let rules = Rules::new(alloc, FILE)?;
     let mut searcher = RulesSearcher::new(alloc, &rules)?;
@@ -49,7 +48,7 @@ fn searcher_outlives_its_rules(rt: HostRuntime) -> Result<(), Error> {
 }
 
 #[test]
-fn rules_say_the_same(rt: HostRuntime) -> Result<(), Error> {
+fn rules_say_the_same(rt: HostRuntime) -> Result<(), AllocError> {
     let rules = Rules::new(rt.alloc(), FILE)?;
     for (row, (path, is_folder, decision, line)) in SAID.iter().enumerate() {
         assert_eq!(rt;
@@ -67,7 +66,7 @@ fn rules_say_the_same(rt: HostRuntime) -> Result<(), Error> {
 }
 
 #[test]
-fn searcher_decides_about_folders_again(rt: HostRuntime) -> Result<(), Error> {
+fn searcher_decides_about_folders_again(rt: HostRuntime) -> Result<(), AllocError> {
     let alloc = rt.alloc();
     let mut searcher = RulesSearcher::new(alloc, &Rules::new(alloc, FILE)?)?;
     for _ in 0..2 {
@@ -79,6 +78,54 @@ fn searcher_decides_about_folders_again(rt: HostRuntime) -> Result<(), Error> {
         );
         assert_eq!(rt; decisions[7], Decision::Ignored);
         assert_eq!(rt; wrong_row(&mut searcher), None);
+    }
+    Ok(())
+}
+
+/// A file with letters in upper case, a line that is not UTF-8, and a class that no text in UTF-8 can have.
+const IN_CASES: &[u8] = b"*.Tmp\n!Keep.tmp\n/Build/\n[A-C]x\n\\Dd\n[E]e\n\xff*\n[\xbf-\xc2]\n";
+
+/// Each path of a file, or of a folder, with the line that `git check-ignore -v -n` prints, and the line with `core.ignoreCase`.
+const BY_CASE: [(&[u8], bool, Option<usize>, Option<usize>); 11] = [
+    (b"a.TMP", false, None, Some(1)),
+    (b"keep.TMP", false, None, Some(2)),
+    (b"build", true, None, Some(3)),
+    (b"Bx", false, Some(4), Some(4)),
+    (b"bX", false, None, Some(4)),
+    (b"Dd", false, Some(5), None),
+    (b"dd", false, None, None),
+    (b"Ee", false, Some(6), None),
+    (b"\xffz", false, Some(7), Some(7)),
+    (b"\xc1", false, Some(8), Some(8)),
+    (b"\xc3", false, None, None),
+];
+
+/// Returns the first row for which rules, or a searcher of them, find another line, where case counts or is ignored.
+fn wrong_row_of(
+    rules: &Rules,
+    searcher: &mut RulesSearcher,
+    ignore_case: bool,
+) -> Result<Option<usize>, AllocError> {
+    for (row, (path, is_folder, line, in_any_case)) in BY_CASE.iter().enumerate() {
+        let wanted = if ignore_case { *in_any_case } else { *line };
+        if rules.deciding_line_once(path, *is_folder)? != wanted
+            || searcher.deciding_line(path, *is_folder) != wanted
+        {
+            return Ok(Some(row));
+        }
+    }
+    Ok(None)
+}
+
+#[test]
+fn case_counts_or_is_ignored(rt: HostRuntime) -> Result<(), AllocError> {
+    let alloc = rt.alloc();
+    for ignore_case in [false, true] {
+        let builder = RulesBuilder::new().ignore_case(ignore_case);
+        let rules = builder.build(alloc, IN_CASES)?;
+        let mut searcher = RulesSearcher::new(alloc, &rules)?;
+        assert!(rt; rules.unread_lines().is_empty());
+        assert_eq!(rt; wrong_row_of(&rules, &mut searcher, ignore_case)?, None);
     }
     Ok(())
 }
@@ -103,10 +150,10 @@ const BY_TWO_RULES: [(&[u8], bool, Decision, Decision); 12] = [
 ];
 
 #[test]
-fn two_rules_decide(rt: HostRuntime) -> Result<(), Error> {
+fn two_rules_decide(rt: HostRuntime) -> Result<(), AllocError> {
     let alloc = rt.alloc();
     let rules = Rules::new(alloc, TWO_RULES)?;
-    let mut stack = IgnoreStack::new(alloc)?;
+    let mut stack = IgnoreStack::new(alloc);
     stack.add_file(TWO_RULES)?;
     for (row, (path, is_folder, below, nearest)) in BY_TWO_RULES.iter().enumerate() {
         assert!(rt;
@@ -131,7 +178,7 @@ fn rules_decide(
     is_folder: bool,
     below: Decision,
     nearest: Decision,
-) -> Result<bool, Error> {
+) -> Result<bool, AllocError> {
     let mut scratch = IgnoreScratch::new(alloc, rules)?;
     let is_below = rules.decide_below(path, is_folder, &mut scratch) == below;
     let is_nearest = rules.decide_nearest(path, is_folder, &mut scratch) == nearest;
@@ -139,8 +186,8 @@ fn rules_decide(
 }
 
 #[test]
-fn nearest_decision_of_nested_files(rt: HostRuntime) -> Result<(), Error> {
-    let mut stack = IgnoreStack::new(rt.alloc())?;
+fn nearest_decision_of_nested_files(rt: HostRuntime) -> Result<(), AllocError> {
+    let mut stack = IgnoreStack::new(rt.alloc());
     stack.add_file(b"/build\n*.log\n")?;
     stack.enter(b"build")?;
     stack.add_file(b"!keep.txt\n!b/\n")?;
@@ -166,7 +213,7 @@ fn nearest_decision_of_nested_files(rt: HostRuntime) -> Result<(), Error> {
 }
 
 /// Returns a file of 50 lines that need an automaton: line `n` is `*a` with `n + 9` behind it, and then `*b*`.
-fn odd_lines(alloc: Global) -> Result<Vec<u8>, Error> {
+fn odd_lines(alloc: Global) -> Result<Vec<u8>, AllocError> {
     let mut file = Vec::new(alloc);
     for number in 10..60 {
         file.extend_from_slice(b"*a")?;
@@ -177,7 +224,7 @@ fn odd_lines(alloc: Global) -> Result<Vec<u8>, Error> {
 }
 
 #[test]
-fn searcher_keeps_rows(rt: HostRuntime) -> Result<(), Error> {
+fn searcher_keeps_rows(rt: HostRuntime) -> Result<(), AllocError> {
     let alloc = rt.alloc();
     let rules = Rules::new(alloc, &odd_lines(alloc)?)?;
     let mut searcher = RulesSearcher::new(alloc, &rules)?;

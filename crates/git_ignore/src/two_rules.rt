@@ -9,7 +9,7 @@ use crate::scratch::IgnoreScratch;
 
 /// Rules that decide about a path alone: those of a file, or of several files.
 pub trait DecidesAlone {
-    ghost use Rattle.globset.specs.SetValue.{ScratchValue};
+    ghost use Rattle.git_ignore.specs.RulesValue.{ScratchValue};
     ghost use Rattle.git_ignore.specs.declared.decision.Decision.{Decision as DecisionValue};
 
     ghost fits: { ScratchValue → Self → Type 0 };

@@ -6,7 +6,7 @@ ghost use Rattle.byte_nfa.specs.Steps.{IsReached};
 ghost use Rattle.bit_sets.specs.Indexes.{index_capacity};
 ghost use Rattle.lazy_dfa.specs.Sets.{sets_capacity};
 ghost use Rattle.glob_strategy.specs.IndexedTokens.{IndexedTokens, IsFor, SomeMeanAfter};
-ghost use Rattle.glob_matching.specs.Matching.{AddsMatches, TellsMatch};
+ghost use Rattle.glob_matching.specs.Matching.{AddsMatches, AddsReached, TellsMatch};
 
 use crate::rows::RowSource;
 use bit_sets::{ByteSet, IndexSet, Visits};
@@ -138,6 +138,7 @@ impl Compiled {
         requires cache { IfSome cache.old (λ c. c ≡ self.now) }
         ensures cache { cache.new ≡ cache.old }
         ensures room { index_capacity found.new ≡ index_capacity found.old }
+        ensures reached { OnOk result (AddsReached self.now text.now found.old found.new) }
         ensures found { OnOk result (AddsMatches self.now text.now found.old found.new) }
         ensures kept { sets_capacity sets.old ≤ sets_capacity sets.new }
         ensures memory { size self.now ≤ sets_capacity sets.old → IsOk result }

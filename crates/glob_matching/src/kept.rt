@@ -62,7 +62,7 @@ impl Model for KeptCaches {
 }
 
 impl Kept {
-    /// Returns a cache of so many bytes that no call used yet.
+    /// Returns a cache of `bytes` bytes that no call used yet.
     pub fn new(cache: Cache, bytes: usize) -> Kept
         ensures { result.cache ≡ cache }
     {
@@ -80,16 +80,16 @@ pub const MOST_KEPT: usize = 4;
 /// The bytes of the first cache. Where rows do not fit, the next one takes four times as many, too.
 const FIRST_BYTES: usize = 4 * FEWEST_BYTES;
 
-/// So many calls that find no cache make none, so that a set which is asked about few paths takes no memory for them.
+/// How many calls find no cache before one makes the first. So a set that matches few paths takes no memory for caches.
 const FIRST_CALLS: usize = 2;
 
-/// The first cache that so many calls used is published.
+/// How many calls use a cache before it is published, if it is the first.
 const FIRST_USES: usize = 1 << 10;
 
-/// The next one is published after so many, which are calls of texts for which the first lacked an entry.
+/// How many use the second before it is published: these are calls for texts where the first lacked an entry.
 const SECOND_USES: usize = 1 << 14;
 
-/// And the last one.
+/// How many use the last one.
 const THIRD_USES: usize = 1 << 18;
 
 impl KeptCaches {
@@ -172,7 +172,7 @@ impl KeptCaches {
         }
     }
 
-    /// Returns where a cache that so many calls used is published, if it is. One cache at least stays in the pool.
+    /// Returns where a cache is published after `uses` calls, if it is. One cache at least stays in the pool.
     fn place_after(&self, uses: usize) -> Option<&Published>
         ensures { IfSome result (λ place. place.now ≡ self.now) }
     {

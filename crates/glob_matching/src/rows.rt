@@ -6,7 +6,8 @@ ghost use Rattle.bit_sets.specs.Indexes.{index_capacity};
 ghost use Rattle.byte_nfa.specs.Live.{MatchesAfter};
 ghost use Rattle.byte_nfa.specs.Runs.{size};
 ghost use Rattle.byte_nfa.specs.Steps.{IsReached};
-ghost use Rattle.glob_matching.specs.inner.Found.{AddsReached, AddsSome};
+ghost use Rattle.glob_matching.specs.Matching.{AddsReached};
+ghost use Rattle.glob_matching.specs.inner.Found.{AddsSome};
 
 use crate::kept::{Kept, KeptCaches, MOST_KEPT};
 use bit_sets::{IndexSet, Visits};
@@ -111,7 +112,7 @@ impl RowSource {
         None
     }
 
-    /// Makes a cache of so many bytes, if fewer are kept than may be, and there is memory for it.
+    /// Makes a cache of `bytes` bytes, if fewer caches are kept than may be, and there is memory for it.
     fn make(&self, bytes: usize) -> Option<Kept>
         ensures { IfSome result (λ kept. kept.cache ≡ self.now) }
     {
@@ -127,8 +128,8 @@ impl RowSource {
         }
     }
 
-    /// Returns a cache of so many bytes. It begins with the rows that were published last, since calls that find all they
-    /// need there never come to it. Returns an error if memory runs out.
+    /// Returns a cache of `bytes` bytes. It begins with the rows that were published last, since calls that find all they need
+    /// there never come to it. Returns an error if memory runs out.
     fn new_kept(&self, bytes: usize) -> Result<Kept, AllocError>
         ensures { IfOk result (λ kept. kept.cache ≡ self.now) }
     {
@@ -223,13 +224,13 @@ impl RowSource {
 }
 
 /// The most bytes of a searcher's caches, whatever the limit is, so that one can be made under any limit. More than 8 MB hardly
-/// changed what a path took.
+/// changed the time of a path.
 const MOST_BYTES: usize = 1 << 23;
 
-/// With fewer bytes for a cache there is none: then so many automata share the room that few globs are run for a text.
+/// An automaton with fewer bytes has no cache: then very many automata share the limit, and a text runs few globs.
 pub const FEWEST_BYTES: usize = 1 << 12;
 
-/// Returns how many of some bytes an automaton of so many states has, which automata of `all_states` share.
+/// Returns an automaton's share of `bytes`, by its number of states among those of all automata.
 fn share_of(bytes: usize, states: usize, all_states: usize) -> usize {
     bytes.saturating_mul(states) / all_states.max(1)
 }

@@ -1,4 +1,4 @@
-//! States from which a text may lead to an end.
+//! States that may lead to an end by some text.
 
 ghost use Rattle.std.specs.Prelude.{◌≡◌, ℕ, true, Contains, slice_index_or, IsTrue, IfOk};
 ghost use Rattle.byte_nfa.specs.Steps.{state};

@@ -1,6 +1,6 @@
-//! Containment and disjointness of what globs match: whether each path that a glob matches is matched by some glob of a list,
-//! whether some path is matched by both of two globs, and which globs of a list never decide. Each answer has a path that shows
-//! it, or holds for all paths.
+//! Containment and disjointness of globs: whether the globs of a list match each path that a glob matches, whether two globs
+//! match a path in common, and which globs of a list never decide. Each answer has a path that shows it, or holds for all
+//! paths.
 //!
 //! [`covering`], [`overlap`] and [`unreachable`] are the calls. A question is about the paths of a [`Domain`].
 //!

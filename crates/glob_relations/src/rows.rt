@@ -15,7 +15,7 @@ pub struct Row {
     pub states: Vec<usize>,
 }
 
-/// The origin of a row: the byte that led to it, and the number of the row in which the byte was read.
+/// The origin of a row: the byte that led to it, and the number of the row where the byte was read.
 #[derive(Clone, Copy)]
 pub struct Origin {
     pub row: usize,

@@ -97,7 +97,7 @@ pub fn search(
     Ok(Answer::Nothing)
 }
 
-/// Returns the row in which a path begins, alone.
+/// Returns the row where a path begins, alone.
 fn first_rows(
     alloc: Global,
     automaton: &Nfa,

@@ -145,8 +145,8 @@ fn paths_are_short(rt: HostRuntime) -> Result<(), Error> {
     Ok(())
 }
 
-/// Globs of which the last that matches decides, and for each: `None` if it decides for some relative path, or else which cover
-/// it.
+/// Lists of globs, whose last that matches decides, and for each glob: `None` if it decides for some relative path, or else
+/// which globs cover it.
 const UNUSED: [(&[&str], &[Option<&[usize]>]); 5] = [
     (&["*", "a", "*"], &[Some(&[2]), Some(&[2]), None]),
     (&["a/**", "*/b", "**"], &[Some(&[2]), Some(&[2]), None]),

@@ -274,7 +274,8 @@ fn covers_alone(
     }
 }
 
-/// Returns some of the indexes `by`, whose globs cover another, and none of which can be left out. It tries to leave out each in turn.
+/// Returns some of the indexes `by`, whose globs cover another, so that none can be left out. It tries to leave out each in
+/// turn.
 fn least_cover(
     alloc: Global,
     glob: &Glob,
@@ -338,7 +339,7 @@ fn covering_at(
     Ok(coverage_of(answer))
 }
 
-/// Returns an automaton in which a glob has the index 0, and each of the globs of a list at these indexes has the index 1.
+/// Returns an automaton for a glob, with the index 0, and for the globs of a list at these indexes, with the index 1.
 fn automaton_at(alloc: Global, glob: &Glob, globs: &[Glob], by: &[usize]) -> Result<Nfa, AllocError>
     requires { (k : ℕ) → Contains by.now k → k < length globs.now }
     ensures { IfOk result

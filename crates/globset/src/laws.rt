@@ -29,13 +29,13 @@ pub fn one_glob_set()
     ensures { OneGlobSet }
 {}
 
-/// If a set matches some path below a folder, [`GlobSet::can_match_below`] returns true for the folder. So a walk that skips all
-/// other folders misses no path.
+/// If a set matches some path below a directory, [`GlobSet::can_match_below`] returns true for the directory. So a walk that
+/// skips all other directories misses no path.
 pub fn below_has_paths()
     ensures { BelowHasPaths }
 {}
 
-/// If [`GlobSet::can_match_below`] returns false for a folder, it does so for each folder below that.
+/// If [`GlobSet::can_match_below`] returns false for a directory, it does so for each directory below that.
 pub fn below_ends()
     ensures { BelowEnds }
 {}

@@ -239,7 +239,7 @@ impl Searcher {
     /// let set = GlobSet::new(alloc, [&Glob::new(alloc, "src/**")?])?;
     /// let mut searcher = Searcher::new(alloc, &set)?;
     ///
-    /// // A walk has come to the folder `target`. It opens it only if some path below it can match.
+    /// // A walk has come to the directory `target`. It opens it only if some path below it can match.
     /// assert!(rt; !searcher.can_match_below(&Candidate::new("target")));
     /// ```
     pub fn can_match_below(&mut self, folder: &Candidate<'_>) -> bool

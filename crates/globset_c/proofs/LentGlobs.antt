@@ -1,12 +1,13 @@
 -- Lent objects that are globs.
-use Rattle.std.proofs.Common.{◌≡◌, ◌+◌, ◌<◌, ◌≤◌, ℕ, List, [], ◌∷◌, length, arith, subst, ap, refl}
+use Rattle.std.proofs.Common.{◌≡◌, ◌+◌, ◌<◌, ◌≤◌, ℕ, List, [], ◌∷◌, length, arith, subst, ap, refl, sym}
 use Rattle.std.proofs.lemmas.List.{length-append, length-take-le, take_all}
 use Rattle.std.proofs.lemmas.List.Elements.{All-more, All-nil, All-tail}
 use Rattle.std.specs.Prelude.{Some, take, slice_index_or}
 use Rattle.globset_c.specs.declared.lent.Lent.{Lent}
 use Rattle.globset_c.specs.declared.object.Object.{Object}
-use Rattle.globset_c.specs.declared.object.Object.TheVariants.{Glob, Matcher, Builder, Set, Work, Searcher}
-use Rattle.globset_c.specs.Kinds.{IsGlob}
+use Rattle.globset_c.specs.declared.object.Object.TheVariants.{Glob, Matcher, Builder, Set, Work, Searcher, Answers}
+use Rattle.globset_glob.specs.GlobMatches.{GlobValue}
+use Rattle.globset_c.specs.Kinds.{IfGlob, IsGlob}
 use Rattle.globset_c.specs.LentGlobs.{AreGlobs, glob_in, lent_globs}
 
 pub no_globs_yet : AreGlobs []
@@ -31,6 +32,7 @@ one_at_most (Builder o) = omega arith
 one_at_most (Set o) = omega arith
 one_at_most (Work o) = omega arith
 one_at_most (Searcher o) = omega arith
+one_at_most (Answers o) = omega arith
 
 one_each : (o : Object) → IsGlob (Some o) → length (glob_in o) ≡ 1
 one_each (Glob g) h = refl
@@ -39,6 +41,17 @@ one_each (Builder o) h = absurd h
 one_each (Set o) h = absurd h
 one_each (Work o) h = absurd h
 one_each (Searcher o) h = absurd h
+one_each (Answers o) h = absurd h
+
+-- The glob of an object, where a copy is equal to it.
+pub the_glob : (o : Object) (c : GlobValue) → IfGlob (Some o) (λ g. c ≡ g) → glob_in o ≡ c ∷ []
+the_glob (Glob g) c e = ap (λ (x : GlobValue). x ∷ []) (sym e)
+the_glob (Matcher o) c e = absurd e
+the_glob (Builder o) c e = absurd e
+the_glob (Set o) c e = absurd e
+the_glob (Work o) c e = absurd e
+the_glob (Searcher o) c e = absurd e
+the_glob (Answers o) c e = absurd e
 
 at_most : (ls : List Lent) → length (lent_globs ls) ≤ length ls
 at_most [] = omega arith

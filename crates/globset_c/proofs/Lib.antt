@@ -1,3 +1,4 @@
+pub mod Answered
 pub mod EachIndex
 pub mod Ends
 pub mod AsBox
@@ -5,3 +6,4 @@ pub mod LentGlobs
 pub mod ManyIndexes
 pub mod Nil
 pub mod Owns
+pub mod Told

@@ -3,8 +3,9 @@ use Rattle.std.specs.Prelude.{Option, Some, ⊤}
 use Rattle.globset_glob.specs.GlobMatches.{GlobValue}
 use Rattle.globset.specs.SearcherValue.{SearcherValue}
 use Rattle.globset.specs.SetValue.{SetValue, BuilderValue}
+use Rattle.globset_c.specs.declared.answers.Answers.{Answers as AnswersValue}
 use Rattle.globset_c.specs.declared.object.Object.{Object}
-use Rattle.globset_c.specs.declared.object.Object.TheVariants.{Glob, Matcher, Builder, Set, Work, Searcher}
+use Rattle.globset_c.specs.declared.object.Object.TheVariants.{Glob, Matcher, Builder, Set, Work, Searcher, Answers}
 use Rattle.globset_c.specs.declared.object.Work.{Work as WorkValue}
 
 -- it is a glob, and P of it
@@ -37,6 +38,11 @@ abbrev pub IfSearcher : Option Object → (SearcherValue → Type 0) → Type 0
 IfSearcher (Some (Searcher s)) P = P s
 IfSearcher _ P = ⊥
 
+-- it is answers about globs, and P of them
+abbrev pub IfAnswers : Option Object → (AnswersValue → Type 0) → Type 0
+IfAnswers (Some (Answers a)) P = P a
+IfAnswers _ P = ⊥
+
 -- both are searchers, and P of them
 abbrev pub IfSearchers : Option Object → Option Object → (SearcherValue → SearcherValue → Type 0) → Type 0
 IfSearchers old new P = IfSearcher old (λ s. IfSearcher new (λ t. P s t))
@@ -58,3 +64,6 @@ IsWork o = IfWork o (λ _. ⊤)
 
 abbrev pub IsSearcher : Option Object → Type 0
 IsSearcher o = IfSearcher o (λ _. ⊤)
+
+abbrev pub IsAnswers : Option Object → Type 0
+IsAnswers o = IfAnswers o (λ _. ⊤)

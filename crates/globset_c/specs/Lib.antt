@@ -8,5 +8,6 @@ pub mod LentGlobs
 pub mod LentAt
 pub mod Options
 pub mod Paths
+pub mod Relations
 pub mod Capacity
 pub mod Statuses

@@ -61,7 +61,8 @@ fn is_builder(object: &mut Object) -> bool
     matches!(object, Object::Builder(_))
 }
 
-fn copy_of(object: &Object) -> Result<Glob, Failure>
+/// Returns a copy of the glob, if the object is a glob.
+pub fn copy_of(object: &Object) -> Result<Glob, Failure>
     ensures copied { IfOk result (λ copy. IfGlob (Some object.now) (λ g. copy ≡ g)) }
     ensures wrong_kind { IfErr result (λ why. why ≡ WrongKind → ¬ (IsGlob (Some object.now))) }
     ensures other_kind { ¬ (IsGlob (Some object.now)) → result ≡ Err WrongKind }

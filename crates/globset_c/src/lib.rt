@@ -4,6 +4,7 @@
 #![tactic(auto)]
 
 mod all;
+mod answers;
 mod builders;
 mod error;
 mod error_texts;
@@ -22,6 +23,7 @@ mod owned;
 mod paths;
 mod plain;
 mod read_glob;
+mod relations;
 mod searcher_indexes;
 mod searcher_many;
 mod searchers;

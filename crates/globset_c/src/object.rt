@@ -1,5 +1,6 @@
 //! What C can own.
 
+use crate::answers::Answers;
 use crate::read_glob::ReadGlob;
 use globset::{GlobMatcher, GlobSet, GlobSetBuilder, Scratch, Searcher};
 
@@ -19,6 +20,7 @@ pub enum Object {
     Set(GlobSet),
     Work(Work),
     Searcher(Searcher),
+    Answers(Answers),
 }
 
 /// Why a call on objects failed.

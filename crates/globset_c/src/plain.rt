@@ -192,7 +192,7 @@ fn matches_of(alloc: Global, object: &Object, path: &[u8]) -> Result<Vec<usize>,
     }
 }
 
-/// Returns whether some glob of a set matches some path below a folder.
+/// Returns whether some glob of a set matches some path below a directory.
 #[unsafe(no_mangle)]
 pub extern "C" fn globset_raw_set_can_match_below_plain(set: &mut Lent, folder: &[u8]) -> Status
     ensures same_set { set.new ≡ set.old }

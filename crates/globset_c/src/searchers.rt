@@ -228,7 +228,7 @@ fn found_of(object: &mut Object) -> Option<&[usize]>
     }
 }
 
-/// Returns whether some glob of a searcher's set matches some path below a folder.
+/// Returns whether some glob of a searcher's set matches some path below a directory.
 #[unsafe(no_mangle)]
 pub extern "C" fn globset_raw_searcher_can_match_below(
     searcher: &mut Owned,

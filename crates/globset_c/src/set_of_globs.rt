@@ -44,7 +44,7 @@ pub extern "C" fn globset_raw_set_of_globs(
 
 /// Returns whether each lent object is a glob.
 #[tactic(auto, using(crate::proofs::LentGlobs::no_globs_yet, crate::proofs::LentGlobs::other_than_a_glob, crate::proofs::LentGlobs::all_are_globs))]
-fn are_globs(globs: &mut [Lent]) -> bool
+pub fn are_globs(globs: &mut [Lent]) -> bool
     ensures same { globs.new ≡ globs.old }
     ensures answer { IsTrue result ↔ AreGlobs globs.old }
 {
@@ -56,7 +56,8 @@ fn are_globs(globs: &mut [Lent]) -> bool
     true
 }
 
-fn lends_glob(lent: &mut Lent) -> bool
+/// Returns whether the lent object is a glob.
+pub fn lends_glob(lent: &mut Lent) -> bool
     ensures same { lent.new ≡ lent.old }
     ensures answer { IsTrue result ↔ IsGlob (Some lent.old.object) }
 {

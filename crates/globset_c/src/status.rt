@@ -21,7 +21,7 @@ pub const REJECTED: Status = 4;
 /// The text is not UTF-8.
 pub const NOT_UTF8: Status = 5;
 
-/// The options have a bit that stands for none.
+/// The options have a bit that stands for none, or a number stands for no choice.
 pub const UNKNOWN_OPTION: Status = 6;
 
 /// An object is not of the kind that the call requires.
@@ -32,3 +32,9 @@ pub const BAD_ENDS: Status = 8;
 
 /// The text is longer than the room for it, or the indexes are more.
 pub const TOO_SMALL: Status = 9;
+
+/// A search has more rows than its limit.
+pub const LIMIT_REACHED: Status = 10;
+
+/// There is no answer of this index.
+pub const BAD_INDEX: Status = 11;

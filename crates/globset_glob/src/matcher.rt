@@ -171,13 +171,13 @@ impl GlobMatcher {
         self.is_match_in(path, &mut scratch.sets, visits).unwrap()
     }
 
-    /// Returns whether the glob matches some path below a folder.
+    /// Returns whether the glob matches some path below a directory.
     ///
-    /// A path below a folder is the folder, a `/`, and any bytes, perhaps none. So if this returns false, a walk can skip the
-    /// folder and everything below it. The folder is taken as it is: below `a/` are the paths that begin with `a//`, and below
-    /// the empty folder those that begin with `/`.
+    /// A path below a directory is the directory, a `/`, and any bytes, perhaps none. So if this returns false, a walk can skip
+    /// the directory and everything below it. The directory is taken as it is: below `a/` are the paths that begin with `a//`,
+    /// and below the empty directory those that begin with `/`.
     ///
-    /// For a folder that is not UTF-8, or for several matchers, make a [`Candidate`].
+    /// For a directory that is not UTF-8, or for several matchers, make a [`Candidate`].
     ///
     /// ```rust
     /// use globset::Glob;
@@ -206,9 +206,9 @@ impl GlobMatcher {
 
     /// Does what [`can_match_below_candidate`](GlobMatcher::can_match_below_candidate) does, and adds its visits to `visits`.
     ///
-    /// These are at most `(folder bytes + 2) * (4 * glob bytes + 4)` visits, also after an error; under `whole_character` the
-    /// second factor is `16 * glob bytes + 4`. The call allocates nothing if the matcher compares literals. Otherwise it may make
-    /// a cache of rows, and where it has none it allocates two bits for each state of the automaton.
+    /// These are at most `(directory bytes + 2) * (4 * glob bytes + 4)` visits, also after an error; under `whole_character`
+    /// the second factor is `16 * glob bytes + 4`. The call allocates nothing if the matcher compares literals. Otherwise it
+    /// may make a cache of rows, and where it has none it allocates two bits for each state of the automaton.
     pub fn can_match_below_visits(
         &self,
         folder: &Candidate<'_>,
@@ -383,8 +383,8 @@ impl Strategy {
         }
     }
 
-    /// Returns whether the glob matches some path below a folder. It runs as [`Strategy::is_match`] does. It allocates nothing if
-    /// a key decides or the sets have room.
+    /// Returns whether the glob matches some path below a directory. It runs as [`Strategy::is_match`] does. It allocates
+    /// nothing if a key decides or the sets have room.
     pub fn can_match_below(
         &self,
         folder: &Candidate<'_>,
@@ -479,9 +479,9 @@ impl Model for MatcherSearcher {
 }
 
 impl MatcherSearcher {
-    /// Returns a searcher that matches as the matcher does. It copies the matcher's glob, shares its automaton, and allocates two
-    /// bits for each state of this: at most 8 bits for each byte of the glob's text and 8 more, or four times as much under
-    /// `whole_character`. It also allocates a cache of rows: a quarter of the matcher's limit
+    /// Returns a searcher that matches as the matcher does. It copies the matcher's glob, shares its automaton, and allocates
+    /// two bits for each state of the automaton. These are at most 8 bits for each byte of the glob's text and 8 more, or four
+    /// times as much under `whole_character`. It also allocates a cache of rows: a quarter of the matcher's limit
     /// ([`Glob::compile_matcher_with_limit`](crate::Glob::compile_matcher_with_limit)), so 4 MiB by default, and at most 8 MiB.
     /// The cache is larger only if the automaton has too many states for a row to fit.
     ///

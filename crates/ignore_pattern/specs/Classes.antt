@@ -1,8 +1,10 @@
--- Character classes of ignore files, as git reads them: the bytes after a `[`, and the bytes that the class contains.
+-- Character classes of ignore files, as git's wildmatch reads them: the bytes after a `[`, and the bytes that the class matches.
 use Rattle.std.specs.Prelude.{ℕ, zero, suc, ◌+◌, Bool, false, not, ◌&&◌, ◌||◌, ◌==◌, nat_le, List, [], ◌∷◌, take, Option, Some, None, codes, if◌then◌else◌, length}
 use Rattle.std.specs.Str.{bytes_eq}
 use Rattle.std.specs.List.{list_any, position}
-use Rattle.std.specs.Char.{is_ascii_alphabetic, is_ascii_alphanumeric, is_ascii_digit, is_ascii_hexdigit, is_ascii_lowercase, is_ascii_uppercase, is_ascii_punctuation, is_ascii_graphic, is_ascii_control}
+use Rattle.std.specs.Option.{option_map}
+use Rattle.std.specs.Char.{is_ascii_alphabetic, is_ascii_alphanumeric, is_ascii_digit, is_ascii_hexdigit, is_ascii_lowercase, is_ascii_uppercase, is_ascii_punctuation, is_ascii_graphic, is_ascii_control, to_ascii_lowercase, to_ascii_uppercase}
+use Rattle.bit_sets.specs.Bytes.{differ}
 use Rattle.ignore_pattern.specs.Ends.{ends_with, without_last}
 use Rattle.ignore_pattern.specs.declared.item.ClassName.{ClassName}
 use Rattle.ignore_pattern.specs.declared.item.ClassName.TheVariants.{Alnum, Alpha, Blank, Cntrl, Digit, Graph, Lower, Print, Punct, Space, Upper, Xdigit}
@@ -43,18 +45,26 @@ named_has Space byte = (byte == 32 || byte == 9) || (byte == 10 || byte == 13)
 named_has Upper byte = is_ascii_uppercase byte
 named_has Xdigit byte = is_ascii_hexdigit byte
 
--- ---- items
+-- ---- matching
 
--- The item contains the byte: it is the byte, a range that the byte is in, or a class with a name. A range that goes down has
--- none.
-abbrev pub item_has : ℕ → Item → Bool
-item_has byte (Member c) = byte == c
-item_has byte (Range x y) = nat_le x byte && nat_le byte y
-item_has byte (Named name) = named_has name byte
+-- a byte as it is compared: an ASCII letter in lower case, if case is ignored
+abbrev pub compared : Bool → ℕ → ℕ
+compared ignore_case byte = if ignore_case then to_ascii_lowercase byte else byte
 
--- The class matches the byte: an item contains it, or no item does if the class is negated. No class matches `/`.
-unfoldable pub class_matches : Bool → List Item → ℕ → Bool
-class_matches negated items byte = not (byte == 47) && (if negated then not (list_any (item_has byte) items) else list_any (item_has byte) items)
+-- a compared byte passes the test; if case is ignored, in lower or in upper case
+abbrev pub in_some_case : Bool → (ℕ → Bool) → ℕ → Bool
+in_some_case ignore_case test byte = test byte || (ignore_case && test (to_ascii_uppercase byte))
+
+-- The item has a compared byte. A member is not changed, so one in upper case has nothing if case is ignored. A range that goes
+-- down has nothing.
+abbrev pub item_has : Bool → ℕ → Item → Bool
+item_has ignore_case byte (Member c) = byte == c
+item_has ignore_case byte (Range x y) = in_some_case ignore_case (λ b. nat_le x b && nat_le b y) byte
+item_has ignore_case byte (Named name) = in_some_case ignore_case (named_has name) byte
+
+-- The class matches the byte of a path: some item has it, or none does if the class is negated. No class matches `/`.
+unfoldable pub class_matches : Bool → Bool → List Item → ℕ → Bool
+class_matches ignore_case negated items byte = not (byte == 47) && differ negated (list_any (item_has ignore_case (compared ignore_case byte)) items)
 
 -- ---- reading
 
@@ -104,25 +114,10 @@ item_at last c cs =
 abbrev pub ClassAt : Type 0
 ClassAt = List Item × ℕ
 
--- another byte before the others
-abbrev pub with_character : Option ClassAt → Option ClassAt
-with_character None = None
-with_character (Some class) = Some (class.0, suc class.1)
-
--- and a byte that begins an item
-abbrev pub with_item : Item → Option ClassAt → Option ClassAt
-with_item item None = None
-with_item item (Some class) = Some (item ∷ class.0, suc class.1)
-
 -- The items of a class from here up to its `]`, and the number of bytes. The first n bytes belong to the item before them. The
 -- first byte of a class is always an item; after it a `]` closes the class. `None` if no `]` does, or an item cannot be read.
 unfoldable pub class_items : ℕ → Bool → Option ℕ → List ℕ → Option ClassAt
 class_items n first last [] = None
-class_items (suc n) first last (c ∷ cs) = with_character (class_items n first last cs)
+class_items (suc n) first last (c ∷ cs) = option_map (λ class. (class.0, suc class.1)) (class_items n first last cs)
 class_items zero first last (c ∷ cs) = if c == 93 && not first then Some ([], 1)
-    else elim (item_at last c cs) [ None ↦ None | Some i ↦ with_item i.item (class_items i.more false i.last cs) ]
-
--- a class is negated if `!` or `^` follows its `[`
-abbrev pub is_negated : List ℕ → Bool
-is_negated [] = false
-is_negated (c ∷ cs) = c == 33 || c == 94
+    else elim (item_at last c cs) [ None ↦ None | Some i ↦ option_map (λ class. (i.item ∷ class.0, suc class.1)) (class_items i.more false i.last cs) ]

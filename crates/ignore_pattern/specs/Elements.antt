@@ -1,16 +1,19 @@
--- The elements of a pattern of an ignore file, and the bytes that it matches. Git reads a pattern and compares it with a path
--- byte by byte, and so all is bytes here.
-use Rattle.std.specs.Prelude.{ℕ, zero, suc, ◌+◌, Bool, true, false, not, ◌&&◌, ◌||◌, ◌==◌, List, [], ◌∷◌, drop, Option, Some, None, if◌then◌else◌}
+-- The elements of a pattern of an ignore file, and the bytes that they match, as git's wildmatch reads and compares them: byte by
+-- byte.
+use Rattle.std.specs.Prelude.{ℕ, zero, suc, ◌+◌, Bool, true, false, not, ◌&&◌, ◌||◌, ◌==◌, nat_lt, List, [], ◌∷◌, drop, Option, Some, None, if◌then◌else◌}
 use Rattle.std.specs.List.{list_all, prefix_len}
-use Rattle.globset_glob.specs.TokenMatches.{is_empty, is_one_byte, ends_with_slash, some_cut}
-use Rattle.ignore_pattern.specs.Classes.{class_items, class_matches, is_negated}
+use Rattle.std.specs.Option.{option_map}
+use Rattle.ignore_pattern.specs.Ends.{ends_with}
+use Rattle.ignore_pattern.specs.Classes.{compared, class_items, class_matches}
 use Rattle.ignore_pattern.specs.declared.item.Item.{Item}
 use Rattle.ignore_pattern.specs.declared.place.Place.{Place}
 use Rattle.ignore_pattern.specs.declared.place.Place.TheVariants.{Start, AfterSlash, Elsewhere}
 
 pub data Element : Type 0 where
-  -- a byte
+  -- a byte that stands for itself
   Literal : ℕ → Element
+  -- a byte after a `\`
+  Escaped : ℕ → Element
   -- `?`
   Any : Element
   -- a run of `*`
@@ -24,36 +27,53 @@ pub data Element : Type 0 where
 
 -- ---- matching
 
+-- there are no bytes
+abbrev pub is_empty : List ℕ → Bool
+is_empty [] = true
+is_empty (c ∷ cs) = false
+
+-- there is a single byte, which passes the test
+abbrev pub is_one_byte : (ℕ → Bool) → List ℕ → Bool
+is_one_byte test [] = false
+is_one_byte test (c ∷ []) = test c
+is_one_byte test (c ∷ d ∷ ds) = false
+
 -- the byte is not `/`
 abbrev pub is_inner : ℕ → Bool
 is_inner byte = not (byte == 47)
 
--- the element matches the bytes
-abbrev pub element_matches : Element → List ℕ → Bool
+-- The element matches the bytes. The first argument says whether case is ignored.
+abbrev pub element_matches : Bool → Element → List ℕ → Bool
 -- this byte
-element_matches (Literal c) b = is_one_byte (λ byte. byte == c) b
+element_matches ignore_case (Literal c) b = is_one_byte (λ byte. compared ignore_case byte == compared ignore_case c) b
+-- this byte, which is not changed, so one in upper case matches nothing if case is ignored
+element_matches ignore_case (Escaped c) b = is_one_byte (λ byte. compared ignore_case byte == c) b
 -- any byte but `/`
-element_matches Any b = is_one_byte is_inner b
+element_matches ignore_case Any b = is_one_byte is_inner b
 -- any bytes but `/`, or none
-element_matches Star b = list_all is_inner b
+element_matches ignore_case Star b = list_all is_inner b
 -- no bytes, or bytes that end with `/`
-element_matches Folders b = is_empty b || ends_with_slash b
+element_matches ignore_case Folders b = is_empty b || ends_with 47 b
 -- any bytes, or none
-element_matches Everything b = true
-element_matches (Class negated items) b = is_one_byte (class_matches negated items) b
+element_matches ignore_case Everything b = true
+element_matches ignore_case (Class negated items) b = is_one_byte (class_matches ignore_case negated items) b
+
+-- the bytes can be cut into two parts that pass the test; either may be empty
+abbrev pub some_cut : (List ℕ → List ℕ → Bool) → List ℕ → Bool
+some_cut test [] = test [] []
+some_cut test (c ∷ cs) = test [] (c ∷ cs) || some_cut (λ front back. test (c ∷ front) back) cs
 
 -- the elements match the bytes in order
-unfoldable pub elements_take : List Element → List ℕ → Bool
-elements_take [] b = is_empty b
-elements_take (e ∷ es) b = some_cut (λ x y. element_matches e x && elements_take es y) b
+unfoldable pub elements_match : Bool → List Element → List ℕ → Bool
+elements_match ignore_case [] b = is_empty b
+elements_match ignore_case (e ∷ es) b = some_cut (λ front back. element_matches ignore_case e front && elements_match ignore_case es back) b
 
 -- ---- reading
 
 -- The place of the byte after a plain byte. A byte that follows only plain bytes is at the start.
 abbrev pub place_after : Place → ℕ → Place
 place_after Start c = Start
-place_after AfterSlash c = if c == 47 then AfterSlash else Elsewhere
-place_after Elsewhere c = if c == 47 then AfterSlash else Elsewhere
+place_after _ c = if c == 47 then AfterSlash else Elsewhere
 
 -- and after an escaped byte, which is not plain
 abbrev pub place_after_escaped : ℕ → Place
@@ -61,9 +81,8 @@ place_after_escaped c = if c == 47 then AfterSlash else Elsewhere
 
 -- stars at this place can stand for folders
 abbrev pub may_cross : Place → Bool
-may_cross Start = true
-may_cross AfterSlash = true
 may_cross Elsewhere = false
+may_cross _ = true
 
 -- the reading at a position: the element, the number of bytes that belong to it after its first, and the place after it
 pub record ElementAt : Type 0 where
@@ -85,21 +104,21 @@ crossing_at more (c ∷ d ∷ cs) = if c == 47 then at Folders (suc more) AfterS
 
 -- a run of stars, with `more` after the first, and the bytes after the run
 abbrev pub run_at : Bool → ℕ → List ℕ → ElementAt
-run_at crosses zero rest = at Star 0 Elsewhere
-run_at crosses (suc n) rest = if crosses then crossing_at (suc n) rest else at Star (suc n) Elsewhere
+run_at crosses more rest = if crosses && nat_lt 0 more then crossing_at more rest else at Star more Elsewhere
 
 -- The class after a `[` and this number of bytes of negation. `None` if it cannot be read.
 abbrev pub class_after : ℕ → Bool → List ℕ → Option ElementAt
 class_after skipped negated cs = elim (class_items zero true None cs) [ None ↦ None | Some class ↦ Some (at (Class negated class.0) (skipped + class.1) Elsewhere) ]
 
--- the class after a `[`
+-- the class after a `[`; it is negated if `!` or `^` follows
 abbrev pub class_at : List ℕ → Option ElementAt
-class_at cs = if is_negated cs then class_after 1 true (drop 1 cs) else class_after 0 false cs
+class_at [] = None
+class_at (c ∷ cs) = if c == 33 || c == 94 then class_after 1 true cs else class_after 0 false (c ∷ cs)
 
--- the element after a `\`: the next byte is always plain, and has to exist
+-- the element after a `\`: the next byte, whatever it is, and there has to be one
 abbrev pub escaped_at : List ℕ → Option ElementAt
 escaped_at [] = None
-escaped_at (c ∷ cs) = Some (at (Literal c) 1 (place_after_escaped c))
+escaped_at (c ∷ cs) = Some (at (Escaped c) 1 (place_after_escaped c))
 
 -- The element at `c`, followed by `cs`. Stars stand for folders only in a pattern that is matched against whole paths.
 unfoldable pub element_at : Bool → Place → ℕ → List ℕ → Option ElementAt
@@ -110,14 +129,9 @@ element_at whole place c cs =
     else (if c == 91 then class_at cs
     else Some (at (Literal c) 0 (place_after place c)))))
 
--- an element before the others
-abbrev pub with_element : Element → Option (List Element) → Option (List Element)
-with_element e None = None
-with_element e (Some es) = Some (e ∷ es)
-
 -- The elements of these bytes, where the first n belong to the element before them. `None` if an escape or a class cannot be
 -- read: git then matches nothing.
 unfoldable pub elements : Bool → Place → ℕ → List ℕ → Option (List Element)
 elements whole place n [] = Some []
 elements whole place (suc n) (c ∷ cs) = elements whole place n cs
-elements whole place zero (c ∷ cs) = elim (element_at whole place c cs) [ None ↦ None | Some e ↦ with_element e.element (elements whole e.place e.more cs) ]
+elements whole place zero (c ∷ cs) = elim (element_at whole place c cs) [ None ↦ None | Some e ↦ option_map (λ es. e.element ∷ es) (elements whole e.place e.more cs) ]

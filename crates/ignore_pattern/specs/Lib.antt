@@ -3,11 +3,5 @@ pub mod Lines
 pub mod Classes
 pub mod Elements
 pub mod Patterns
-pub mod CharacterClasses
-pub mod CharacterElements
-pub mod CharacterPatterns
-pub mod Translation
-pub mod Globs
-pub mod Meaning
-pub mod Answer
+pub mod Automata
 pub mod inner

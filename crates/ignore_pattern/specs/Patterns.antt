@@ -1,15 +1,10 @@
--- The pattern that git reads a line of an ignore file as, the paths that it matches, which are those below the folder of the
--- file, and the patterns that a glob can stand for.
-use Rattle.std.specs.Prelude.{ℕ, zero, Bool, true, false, not, ◌&&◌, ◌==◌, List, [], ◌∷◌, Option, Some, None, if◌then◌else◌}
+-- The pattern that git reads a line of an ignore file as, by gitignore(5), and the paths that it matches. A path is that of a file
+-- or folder below the folder of the ignore file, from there on.
+use Rattle.std.specs.Prelude.{ℕ, zero, Bool, ◌==◌, List, [], ◌∷◌, Option, Some, None, if◌then◌else◌}
 use Rattle.std.specs.List.{list_any}
-use Rattle.std.specs.Option.{option_map_or}
-use Rattle.std.specs.Str.{is_utf8}
-use Rattle.globset_glob.specs.PathParts.{last_component}
 use Rattle.ignore_pattern.specs.Ends.{begins_with, without_first, ends_with, without_last}
 use Rattle.ignore_pattern.specs.Lines.{line_text}
-use Rattle.ignore_pattern.specs.Elements.{Element, Literal, Any, Star, Folders, Everything, Class, elements, elements_take}
-use Rattle.ignore_pattern.specs.declared.item.Item.{Item}
-use Rattle.ignore_pattern.specs.declared.item.Item.TheVariants.{Member, Range, Named}
+use Rattle.ignore_pattern.specs.Elements.{Element, elements, elements_match}
 use Rattle.ignore_pattern.specs.declared.place.Place.TheVariants.{Start}
 
 -- the pattern of a line
@@ -53,31 +48,12 @@ pattern_of_line line = pattern_of_text (line_text line)
 
 -- ---- matching
 
--- The pattern matches the path. The caller checks whether the pattern is for folders alone.
-unfoldable pub pattern_matches : Pattern → List ℕ → Bool
-pattern_matches p path = elements_take p.elements (if p.whole then path else last_component path)
+-- the bytes after the last `/`, or all
+abbrev pub last_component : List ℕ → List ℕ
+last_component [] = []
+last_component (c ∷ cs) = if has_slash (c ∷ cs) then last_component cs else c ∷ cs
 
--- ---- patterns that a glob can stand for
-
--- The range from BF to C2. No range of a glob has these bytes alone: it would be from U+00BF to itself, which takes BF and C2.
-abbrev pub is_odd : Item → Bool
-is_odd (Member c) = false
-is_odd (Range x y) = x == 0xBF && y == 0xC2
-is_odd (Named name) = false
-
--- a class with that range
-abbrev pub has_odd_range : Element → Bool
-has_odd_range (Literal c) = false
-has_odd_range Any = false
-has_odd_range Star = false
-has_odd_range Folders = false
-has_odd_range Everything = false
-has_odd_range (Class negated items) = list_any is_odd items
-
--- no class of the pattern has that range
-abbrev pub has_glob : Pattern → Bool
-has_glob p = not (list_any has_odd_range p.elements)
-
--- The pattern of a line that a glob can stand for; none of any other line. The text of the line is UTF-8, as a glob's text is.
-unfoldable pub read_pattern : List ℕ → Option Pattern
-read_pattern line = if is_utf8 (line_text line) && option_map_or has_glob (pattern_of_line line) true then pattern_of_line line else None
+-- The pattern matches the path. The first argument says whether case is ignored, as git's `core.ignoreCase` does. The caller
+-- checks whether the pattern is for folders alone.
+unfoldable pub pattern_matches : Bool → Pattern → List ℕ → Bool
+pattern_matches ignore_case p path = elements_match ignore_case p.elements (if p.whole then path else last_component path)

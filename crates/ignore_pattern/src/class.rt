@@ -1,22 +1,23 @@
-//! Reads the items of a character class.
+//! Character classes.
 
 ghost use Rattle.std.specs.Prelude.{◌≡◌, ◌≤◌, ◌==◌, ◌&&◌, not, zero, true, None, IfOk, IfSome, length};
+ghost use Rattle.std.specs.List.{list_any};
 ghost use Rattle.std.specs.Option.{option_map};
-ghost use Rattle.ignore_pattern.specs.CharacterClasses.{class_items};
+ghost use Rattle.ignore_pattern.specs.Classes.{compared, item_has, class_matches, class_items};
 
 use crate::item::{Item, item_at};
 use std::alloc::{AllocError, Global};
 
-/// Returns whether the character closes a class.
-fn closes(first: bool, c: char) -> bool
+/// Returns whether the byte closes a class.
+fn closes(first: bool, c: u8) -> bool
     ensures { result ≡ (c == 93 && not first) }
 {
-    c == ']' && !first
+    c == b']' && !first
 }
 
-/// Returns the items of a class that begins with `cs`, after its `[` and its negation, and its number of characters with its `]`.
+/// Returns the items of a class that begins with `cs`, after its `[` and its negation, and its number of bytes with its `]`.
 /// `None` if it cannot be read.
-pub fn class_items(alloc: Global, cs: &[char]) -> Result<Option<(Vec<Item>, usize)>, AllocError>
+pub fn class_items(alloc: Global, cs: &[u8]) -> Result<Option<(Vec<Item>, usize)>, AllocError>
     ensures value { IfOk result
         (λ r. option_map (λ class. (class.0.items, class.1)) r
         ≡ class_items zero true None cs.now) }
@@ -41,4 +42,31 @@ pub fn class_items(alloc: Global, cs: &[char]) -> Result<Option<(Vec<Item>, usiz
         }
     }
     Ok(None)
+}
+
+/// Returns the byte as it is compared: an ASCII letter in lower case, if case is ignored.
+fn compared(ignore_case: bool, byte: u8) -> u8
+    ensures { result ≡ compared ignore_case byte }
+{
+    if ignore_case {
+        byte.to_ascii_lowercase()
+    } else {
+        byte
+    }
+}
+
+/// Returns whether some item has the byte of a path.
+fn some_item_has(ignore_case: bool, items: &[Item], byte: u8) -> bool
+    ensures { result ≡ list_any (item_has ignore_case (compared ignore_case byte)) items.now }
+{
+    let byte = compared(ignore_case, byte);
+    items.iter().any(|item| item.has(ignore_case, byte))
+}
+
+/// Returns whether a class matches the byte of a path.
+#[tactic(auto, unfolding(crate::specs::Classes::class_matches))]
+pub fn class_matches(ignore_case: bool, negated: bool, items: &[Item], byte: u8) -> bool
+    ensures { result ≡ class_matches ignore_case negated items.now byte }
+{
+    byte != b'/' && negated != some_item_has(ignore_case, items, byte)
 }

@@ -1,7 +1,18 @@
-//! Lines of ignore files: what git reads them as, and the globs that have the same meaning.
+//! Lines of ignore files: what git reads them as, and an automaton of their patterns.
 //!
-//! [`pattern_of_line`] returns the pattern of a line as a glob, or nothing if the line matches nothing. A line is bytes, without
-//! its line feed. Of a whole file the caller takes a byte order mark away, and cuts the lines.
+//! [`pattern_of_line`] returns the pattern of a line, or nothing if the line matches nothing. A line is bytes, without its line
+//! feed. Of a whole file the caller takes a byte order mark away, and cuts the lines. [`automaton_of`] makes an automaton of
+//! patterns, which leads a path to the indexes of the patterns that match it.
+//!
+//! ```
+//! let mut patterns = Vec::new(alloc);
+//! for line in [b"*.o".as_slice(), b"!keep.o".as_slice()] {
+//!     if let Some(pattern) = pattern_of_line(alloc, line)? {
+//!         patterns.push(pattern)?;
+//!     }
+//! }
+//! let automaton = automaton_of(alloc, &patterns, false)?;
+//! ```
 //!
 //! # Lines
 //!
@@ -17,47 +28,42 @@
 //!
 //! # Patterns
 //!
-//! | Pattern | Matches | The glob has |
-//! |---|---|---|
-//! | `?` | one byte, but not `/` | `?` |
-//! | `*` | bytes without `/`, or none | `*` |
-//! | `**/` | nothing, or bytes that end with `/` | `**/`, or `{**/}` inside |
-//! | `**` at the end, and before `\/` | any bytes, or none | `*{,/**}` |
-//! | another run of stars | what one does | `*` |
-//! | `[ab]`, `[a-z]`, `[[:alpha:]]` | one byte that the class has, but not `/` | a class; a choice as `{\!,\^}` if it has no other characters than `!`, `^` and `-` |
-//! | `[!ab]`, `[^ab]` | one byte that the class does not have, but not `/` | a class with `/` |
-//! | `\` | the character after it | that character, escaped if it has a meaning in globs |
-//! | `{`, `}`, `,` and others | themselves | the same, escaped if need be |
+//! | Pattern | Matches |
+//! |---|---|
+//! | `?` | one byte, but not `/` |
+//! | `*` | bytes without `/`, or none |
+//! | `**/` | nothing, or bytes that end with `/` |
+//! | `**` at the end, and before `\/` | any bytes, or none |
+//! | another run of stars | what one does |
+//! | `[ab]`, `[a-z]`, `[[:alpha:]]` | one byte that the class has, but not `/` |
+//! | `[!ab]`, `[^ab]` | one byte that the class does not have, but not `/` |
+//! | `\` | the byte after it |
+//! | `{`, `}`, `,` and others | themselves |
 //!
-//! Two and more stars stand for folders or for everything only in a pattern with a `/` in it that is not its last character. They
-//! have to follow a `/`, or all characters before them have to be plain: not escaped, and none of `?`, `*` and `[`.
+//! Two and more stars stand for folders or for everything only in a pattern with a `/` in it that is not its last byte. They have
+//! to follow a `/`, or all bytes before them have to be plain: not escaped, and none of `?`, `*` and `[`.
 //!
-//! In a class a `\` escapes, the first character is always a member, and the twelve names in `[:..:]` have ASCII characters. A
-//! range that goes down has no more than its first character, if it is ASCII. A class is about bytes: a character that is not
-//! ASCII stands for each of its bytes in UTF-8. A pattern with a `\` at its end, a class that nothing closes or with an unknown
-//! name matches nothing.
+//! In a class a `\` escapes, the first byte is always a member, and the twelve names in `[:..:]` have ASCII bytes. A range that
+//! goes down has no more than its first byte. A pattern with a `\` at its end, a class that nothing closes or with an unknown name
+//! matches nothing.
 //!
-//! # Differences from git
+//! # Case
 //!
-//! The definition says git's reading of a line, byte by byte. A glob can stand for each pattern, except in two kinds of lines,
-//! where nothing is returned:
-//!
-//! - A line that is not UTF-8, as the text of a glob is.
-//! - A line with a range from a character whose last byte is BF to a character from U+0080 to U+00BF, as `[¿-¿]`. Git gives such
-//!   a range the bytes from BF to C2. These include C0 and C1, which no character has.
+//! If case is ignored, as by `core.ignoreCase` of git, a path's ASCII letters are compared in lower case. A pattern's letters are
+//! compared in lower case only where they are plain. So an escaped letter in upper case matches nothing, nor does such a member of
+//! a class. A range and a named class match a letter that they have in lower or in upper case.
 #![tactic(auto)]
 
+mod automaton;
 mod class;
-mod class_text;
 mod element;
 mod ends;
 mod item;
-pub mod laws;
 mod line;
 mod pattern;
-mod pattern_text;
 mod place;
 mod reading;
-mod text;
+mod states;
 
+pub use automaton::automaton_of;
 pub use pattern::{IgnorePattern, pattern_of_line};

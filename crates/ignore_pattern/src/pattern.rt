@@ -1,62 +1,101 @@
-//! The pattern of a line, as a glob.
+//! The pattern of a line.
 
-ghost use Rattle.std.specs.Prelude.{◌≡◌, IfOk, IfErr, IsOkUnless};
-ghost use Rattle.globset_glob.specs.Errors.{IsParseErrorOf, out_of_memory};
-ghost use Rattle.ignore_pattern.specs.Answer.{IsPatternOf};
-ghost use Rattle.ignore_pattern.specs.Globs.{glob_of_line};
-ghost use Rattle.ignore_pattern.specs.Translation.{glob_options};
+ghost use Rattle.std.specs.Prelude.{◌≡◌, true, IfOk};
+ghost use Rattle.std.specs.Option.{option_map};
+ghost use Rattle.ignore_pattern.specs.Patterns.{Pattern, pattern_of_line};
+ghost use Rattle.ignore_pattern.specs.inner.Views.{are_inside, elements_of, pattern_of};
 
-use crate::reading::read_line;
-use globset_glob::{Error, Glob, GlobBuilder};
-use std::alloc::Global;
+use crate::element::Element;
+use crate::line::line_text;
+use crate::reading::pattern_of_text;
+use std::alloc::{AllocError, Global};
+use std::marker::Model;
 
-/// The pattern of a line of an ignore file, with the glob that has its meaning.
+/// The pattern of a line of an ignore file.
 #[derive(Debug, Drop)]
 pub struct IgnorePattern {
-    /// The glob. It matches the paths below the folder of the ignore file that the pattern matches.
-    pub glob: Glob,
-    /// Whether the line begins with `!`: paths that it matches are kept, not ignored.
-    pub is_negated: bool,
-    /// Whether the line ends with `/`: it is for folders alone.
-    pub is_folders_only: bool,
+    negated: bool,
+    folders_only: bool,
+    /// Whether it is matched against whole paths, and not against last components.
+    whole: bool,
+    elements: Vec<Element>,
+}
+
+impl Model for IgnorePattern {
+    ghost Value = { Pattern };
+
+    ghost view = { λ p. pattern_of p.negated p.folders_only p.whole p.elements.items };
+
+    ghost invariant = { λ p. are_inside p.whole (elements_of p.elements.items) ≡ true };
+}
+
+impl IgnorePattern {
+    /// Returns the pattern with these elements. Those of a pattern for last components match no `/`.
+    pub(crate) fn new(
+        negated: bool,
+        folders_only: bool,
+        whole: bool,
+        elements: Vec<Element>,
+    ) -> IgnorePattern
+        requires { are_inside whole (elements_of elements.items) ≡ true }
+        ensures { result ≡ pattern_of negated folders_only whole elements.items }
+    {
+        IgnorePattern {
+            negated,
+            folders_only,
+            whole,
+            elements,
+        }
+    }
+
+    /// Returns whether the line begins with `!`: paths that it matches are kept, not ignored.
+    pub fn is_negated(&self) -> bool
+        ensures { result ≡ self.now.negated }
+    {
+        self.negated
+    }
+
+    /// Returns whether the line ends with `/`: it is for folders alone.
+    pub fn is_folders_only(&self) -> bool
+        ensures { result ≡ self.now.folders_only }
+    {
+        self.folders_only
+    }
+
+    /// Returns whether it is matched against whole paths, and not against last components.
+    pub(crate) fn is_whole(&self) -> bool
+        ensures value { result ≡ self.now.whole }
+        ensures inside { are_inside self.now.whole self.now.elements ≡ true }
+    {
+        self.whole
+    }
+
+    /// Returns the elements.
+    pub(crate) fn elements(&self) -> &[Element]
+        ensures { elements_of result.now ≡ self.now.elements }
+    {
+        &self.elements
+    }
 }
 
 /// Returns the pattern of a line, without its line feed.
 ///
-/// Returns `None` if the line has no pattern, or if its pattern matches nothing. It also returns `None` if no glob can stand for
-/// the line: if it is not UTF-8, or has a range of the bytes from BF to C2.
+/// Returns `None` if the line has no pattern, or a pattern that cannot be read: then git matches nothing with it.
 ///
-/// This takes memory linear in the length of the line. The time is also linear, except for classes: each item of a class takes
-/// 128 steps, and each `[:` in a class a search for the next `]`.
+/// This takes time and memory linear in the length of the line. The exception is a `[:` in a class, which takes a search for the
+/// next `]`.
+///
+/// ```
+/// let pattern = pattern_of_line(alloc, b"!build/")?;
+/// assert!(pattern.is_some_and(|pattern| pattern.is_negated() && pattern.is_folders_only()));
+/// assert!(pattern_of_line(alloc, b"# a comment")?.is_none());
+/// ```
 ///
 /// # Errors
 ///
-/// Fails only if memory runs out: the text of the glob can always be read.
-pub fn pattern_of_line(alloc: Global, line: &[u8]) -> Result<Option<IgnorePattern>, Error>
-    ensures pattern { IfOk result (λ r. IsPatternOf line.now r) }
-    ensures value { IfOk result (λ r. r ≡ glob_of_line line.now) }
-    ensures err { IsOkUnless result out_of_memory }
+/// Fails only if memory runs out.
+pub fn pattern_of_line(alloc: Global, line: &[u8]) -> Result<Option<IgnorePattern>, AllocError>
+    ensures { IfOk result (λ r. r ≡ pattern_of_line line.now) }
 {
-    match read_line(alloc, line)? {
-        None => Ok(None),
-        Some(pattern) => match glob_of_text(alloc, pattern.text.as_str()) {
-            Err(error) => Err(error),
-            Ok(glob) => Ok(Some(IgnorePattern {
-                glob,
-                is_negated: pattern.is_negated,
-                is_folders_only: pattern.is_folders_only,
-            })),
-        },
-    }
-}
-
-/// Returns the glob of this text, under the options of a translation.
-fn glob_of_text(alloc: Global, text: &str) -> Result<Glob, Error>
-    ensures ok { IfOk result (λ g. g ≡ record { text = text.now; options = glob_options }) }
-    ensures err { IfErr result (IsParseErrorOf glob_options text.now) }
-{
-    GlobBuilder::new(text)
-        .literal_separator(true)
-        .empty_alternates(true)
-        .build(alloc)
+    pattern_of_text(alloc, line_text(line))
 }

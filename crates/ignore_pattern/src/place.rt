@@ -1,12 +1,12 @@
-//! Where a character of a pattern stands.
+//! Where a byte of a pattern stands.
 
 ghost use Rattle.std.specs.Prelude.{◌≡◌};
-ghost use Rattle.ignore_pattern.specs.CharacterElements.{place_after, place_after_escaped, may_cross};
+ghost use Rattle.ignore_pattern.specs.Elements.{place_after, place_after_escaped, may_cross};
 
-/// Where a character of a pattern stands.
+/// Where a byte of a pattern stands.
 #[derive(Clone, Copy)]
 pub enum Place {
-    /// All characters before it are plain, or there are none.
+    /// All bytes before it are plain, or there are none.
     Start,
     /// It follows a `/`.
     AfterSlash,
@@ -14,8 +14,8 @@ pub enum Place {
 }
 
 impl Place {
-    /// Returns the place of the character after a plain character at this place.
-    pub fn after(self, c: char) -> Place
+    /// Returns the place of the byte after a plain byte at this place.
+    pub fn after(self, c: u8) -> Place
         ensures { result ≡ place_after self c }
     {
         match self {
@@ -24,11 +24,11 @@ impl Place {
         }
     }
 
-    /// Returns the place of the character after an escaped character.
-    pub fn after_escaped(c: char) -> Place
+    /// Returns the place of the byte after an escaped byte.
+    pub fn after_escaped(c: u8) -> Place
         ensures { result ≡ place_after_escaped c }
     {
-        if c == '/' {
+        if c == b'/' {
             Place::AfterSlash
         } else {
             Place::Elsewhere

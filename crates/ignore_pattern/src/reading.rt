@@ -1,120 +1,82 @@
-//! The reading of a line.
+//! The reading of the text of a line.
 
-ghost use Rattle.std.specs.Prelude.{◌≡◌, zero, IfOk};
-ghost use Rattle.std.specs.Option.{option_map, option_and_then};
-ghost use Rattle.std.specs.Str.{chars};
-ghost use Rattle.ignore_pattern.specs.CharacterElements.{elements};
-ghost use Rattle.ignore_pattern.specs.CharacterPatterns.{has_slash, pattern_with, pattern_between, pattern_after, pattern_of_chars};
-ghost use Rattle.ignore_pattern.specs.Globs.{glob_of_pattern, glob_of_line};
+ghost use Rattle.std.specs.Prelude.{◌≡◌, zero, IfOk, IsTrue};
+ghost use Rattle.ignore_pattern.specs.Elements.{elements};
+ghost use Rattle.ignore_pattern.specs.Patterns.{has_slash, pattern_with, pattern_between, pattern_after, pattern_of_text};
 ghost use Rattle.ignore_pattern.specs.declared.place.Place.TheVariants.{Start};
-ghost use Rattle.ignore_pattern.specs.inner.Views.{with_glob};
 
+use crate::element::read_elements;
 use crate::ends::before_last;
-use crate::line::line_text;
-use crate::pattern_text::text_of;
+use crate::pattern::IgnorePattern;
 use std::alloc::{AllocError, Global};
-use std::str;
 
-/// The pattern of a line of an ignore file, with the text of the glob that has its meaning.
-#[derive(Drop)]
-pub struct PatternText {
-    pub text: String,
-    pub is_negated: bool,
-    pub is_folders_only: bool,
-}
-
-/// Returns the pattern of a line, without its line feed; `None` if it has no pattern, or its pattern matches nothing.
-pub fn read_line(alloc: Global, line: &[u8]) -> Result<Option<PatternText>, AllocError>
-    ensures { IfOk result (λ r. option_map with_glob r ≡ glob_of_line line.now) }
+/// Returns the pattern of the text of a line; `None` if it has none, or its pattern cannot be read.
+#[tactic(auto, unfolding(crate::specs::Patterns::pattern_of_text))]
+pub fn pattern_of_text(alloc: Global, text: &[u8]) -> Result<Option<IgnorePattern>, AllocError>
+    ensures { IfOk result (λ r. r ≡ pattern_of_text text.now) }
 {
-    match str::from_utf8(line_text(line)) {
-        Err(_) => Ok(None),
-        Ok(text) => {
-            let characters = characters(alloc, text)?;
-            pattern_of_chars(alloc, &characters)
-        }
+    match text {
+        [b'#', ..] => Ok(None),
+        [b'!', after @ ..] => pattern_after(alloc, true, after),
+        _ => pattern_after(alloc, false, text),
     }
 }
 
-/// Returns the characters of a text.
-fn characters(alloc: Global, text: &str) -> Result<Vec<char>, AllocError>
-    ensures { IfOk result (λ v. v.items ≡ chars text.now) }
-{
-    text.chars().collect(alloc)
-}
-
-/// Returns the pattern of the characters of a line.
-#[tactic(auto, unfolding(crate::specs::CharacterPatterns::pattern_of_chars))]
-fn pattern_of_chars(alloc: Global, cs: &[char]) -> Result<Option<PatternText>, AllocError>
-    ensures { IfOk result
-        (λ r. option_map with_glob r ≡ option_and_then glob_of_pattern (pattern_of_chars cs.now)) }
-{
-    match cs {
-        ['#', ..] => Ok(None),
-        ['!', after @ ..] => pattern_after(alloc, true, after),
-        _ => pattern_after(alloc, false, cs),
-    }
-}
-
-/// Returns the pattern of the characters after the `!`, if there is any.
+/// Returns the pattern of the bytes after the `!`, if there is any.
 fn pattern_after(
     alloc: Global,
-    is_negated: bool,
-    cs: &[char],
-) -> Result<Option<PatternText>, AllocError>
-    ensures { IfOk result
-        (λ r. option_map with_glob r
-        ≡ option_and_then glob_of_pattern (pattern_after is_negated cs.now)) }
+    negated: bool,
+    bytes: &[u8],
+) -> Result<Option<IgnorePattern>, AllocError>
+    ensures { IfOk result (λ r. r ≡ pattern_after negated bytes.now) }
 {
-    match before_last('/', cs) {
-        Some(front) => pattern_between(alloc, is_negated, true, front),
-        None => pattern_between(alloc, is_negated, false, cs),
+    match before_last(b'/', bytes) {
+        Some(front) => pattern_between(alloc, negated, true, front),
+        None => pattern_between(alloc, negated, false, bytes),
     }
 }
 
-/// Returns the pattern of the characters between the `!` and the `/` at the end, if these are there.
+/// Returns the pattern of the bytes between the `!` and the `/` at the end, if these are there.
 fn pattern_between(
     alloc: Global,
-    is_negated: bool,
-    is_folders_only: bool,
-    cs: &[char],
-) -> Result<Option<PatternText>, AllocError>
-    ensures { IfOk result
-        (λ r. option_map with_glob r
-        ≡ option_and_then glob_of_pattern (pattern_between is_negated is_folders_only cs.now)) }
+    negated: bool,
+    folders_only: bool,
+    bytes: &[u8],
+) -> Result<Option<IgnorePattern>, AllocError>
+    ensures { IfOk result (λ r. r ≡ pattern_between negated folders_only bytes.now) }
 {
-    match cs {
-        ['/', after @ ..] => pattern_with(alloc, is_negated, is_folders_only, true, after),
-        _ => pattern_with(alloc, is_negated, is_folders_only, has_slash(cs), cs),
+    match bytes {
+        [b'/', after @ ..] => pattern_with(alloc, negated, folders_only, true, after),
+        _ => pattern_with(alloc, negated, folders_only, has_slash(bytes), bytes),
     }
 }
 
-/// Returns the pattern of these characters. `whole` says whether it is matched against whole paths.
+/// Returns the pattern of these bytes. `whole` says whether it is matched against whole paths.
 fn pattern_with(
     alloc: Global,
-    is_negated: bool,
-    is_folders_only: bool,
+    negated: bool,
+    folders_only: bool,
     whole: bool,
-    cs: &[char],
-) -> Result<Option<PatternText>, AllocError>
+    bytes: &[u8],
+) -> Result<Option<IgnorePattern>, AllocError>
+    requires { IsTrue (has_slash bytes.now) → IsTrue whole }
     ensures { IfOk result
-        (λ r. option_map with_glob r
-        ≡ option_and_then glob_of_pattern
-        (pattern_with is_negated is_folders_only whole (elements whole Start zero cs.now))) }
+        (λ r. r ≡ pattern_with negated folders_only whole (elements whole Start zero bytes.now)) }
 {
-    match text_of(alloc, whole, cs)? {
-        None => Ok(None),
-        Some(text) => Ok(Some(PatternText {
-            text,
-            is_negated,
-            is_folders_only,
-        })),
+    match read_elements(alloc, whole, bytes)? {
+        Some(elements) if !elements.is_empty() => Ok(Some(IgnorePattern::new(
+            negated,
+            folders_only,
+            whole,
+            elements,
+        ))),
+        _ => Ok(None),
     }
 }
 
 /// Returns whether there is a `/`.
-fn has_slash(cs: &[char]) -> bool
-    ensures { result ≡ has_slash cs.now }
+fn has_slash(bytes: &[u8]) -> bool
+    ensures { result ≡ has_slash bytes.now }
 {
-    cs.iter().any(|c| *c == '/')
+    bytes.iter().any(|byte| *byte == b'/')
 }

@@ -8,10 +8,8 @@ ghost use Rattle.byte_nfa.specs.Steps.{IsReached};
 ghost use Rattle.bit_sets.specs.StateSets.{state_capacity};
 ghost use Rattle.byte_nfa.specs.Live.{AreLive};
 ghost use Rattle.lazy_dfa.specs.Sets.{sets_capacity};
-ghost use Rattle.lazy_dfa.specs.inner.Classes.{AreEquivalenceClasses};
 ghost use Rattle.lazy_dfa.specs.inner.Sources.{FitsU32, ListsEnds, RunsFor};
 
-use crate::classes::ByteClasses;
 use crate::lists::put_lowered;
 use crate::stepping;
 use crate::stepping::StateSets;
@@ -29,7 +27,6 @@ use std::snapshot::Snapshot;
 #[derive(Drop)]
 pub struct LazyDfa {
     automaton: Nfa,
-    classes: ByteClasses,
     /// The states from which some bytes lead to an end.
     live: StateSet,
     /// The indexes that may be found.
@@ -48,7 +45,7 @@ impl Model for LazyDfa {
       run = d.automaton;
     } };
 
-    ghost invariant = { λ d. IsMadeOf d.source.value d.automaton d.classes d.live d.indexes.items };
+    ghost invariant = { λ d. IsMadeOf d.source.value d.automaton d.live d.indexes.items };
 }
 
 impl LazyDfa {
@@ -62,13 +59,11 @@ impl LazyDfa {
         let Some(early_match) = early_match_of(alloc, automaton)? else {
             return Err(AllocError);
         };
-        let classes = ByteClasses::new(&early_match);
         let mut live = StateSet::new(alloc, early_match.state_count())?;
         early_match.live(&mut live);
         let indexes = indexes_of(alloc, &early_match)?;
         Ok(LazyDfa {
             automaton: early_match,
-            classes,
             live,
             indexes,
             source: Snapshot::of(automaton),
@@ -95,15 +90,6 @@ impl LazyDfa {
         ensures runs { RunsFor self.now.nfa result.now }
     {
         &self.automaton
-    }
-
-    /// Returns the bytes by which no state of the automaton that is run goes on in different ways.
-    pub(crate) fn classes(&self) -> &ByteClasses
-        ensures few { result.now.count ≤ 256 }
-        ensures equivalence { AreEquivalenceClasses self.now.run.states result.now.class_of
-            result.now.representatives result.now.count }
-    {
-        &self.classes
     }
 
     /// Returns the states of the automaton that is run from which some bytes lead to an end.

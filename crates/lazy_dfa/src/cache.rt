@@ -45,7 +45,7 @@ impl Cache {
         if !fits_u32(dfa.automaton()) {
             return Err(AllocError);
         }
-        let rows = Rows::new(alloc, dfa.automaton(), dfa.classes(), bytes)?;
+        let rows = Rows::new(alloc, dfa.automaton(), bytes)?;
         Ok(Cache {
             dfa: Arc::try_clone(dfa)?,
             rows: Box::new(alloc, rows)?,
@@ -59,7 +59,7 @@ impl Cache {
         ensures { IfOk result (λ cache. cache ≡ other.now) }
     {
         let dfa = &other.dfa;
-        let mut rows = Rows::new(alloc, dfa.automaton(), dfa.classes(), bytes)?;
+        let mut rows = Rows::new(alloc, dfa.automaton(), bytes)?;
         rows.take_over(dfa.automaton(), &other.rows);
         Ok(Cache {
             dfa: Arc::try_clone(dfa)?,

@@ -8,7 +8,6 @@ ghost use Rattle.bit_sets.specs.Texts.{AllBytes};
 ghost use Rattle.byte_nfa.specs.Live.{AreLive};
 ghost use Rattle.byte_nfa.specs.Steps.{IsReached};
 ghost use Rattle.byte_nfa.specs.Runs.{size, AcceptsFrom};
-ghost use Rattle.lazy_dfa.specs.inner.Classes.{AreEquivalenceClasses};
 ghost use Rattle.lazy_dfa.specs.inner.Sources.{half, FitsU32};
 ghost use Rattle.lazy_dfa.specs.inner.Rows.{AcceptsIn, AcceptsRow, HasEnds, HasMarks, GoesTo, IsDeadBy, IsNext, IsEnd, IsEntry, IsFirst, IsSound, AreListed, KeepsRows, HasSpace, states_of, place_of, max_entries, marked, BeginsAt, IsAt, IsStep};
 
@@ -118,21 +117,14 @@ pub struct Rows {
 
 impl Rows {
     /// Returns no rows, with room for all that fit `bytes` bytes, and at least for one.
-    pub fn new(
-        alloc: Global,
-        automaton: &Nfa,
-        classes: &ByteClasses,
-        bytes: usize,
-    ) -> Result<Rows, AllocError>
-        requires fits { FitsU32 automaton.now }
-        requires few { classes.now.count ≤ 256 }
-        requires equivalence { AreEquivalenceClasses automaton.now.states classes.now.class_of
-            classes.now.representatives classes.now.count }
+    pub fn new(alloc: Global, automaton: &Nfa, bytes: usize) -> Result<Rows, AllocError>
+        requires { FitsU32 automaton.now }
         ensures { IfOk result (λ rows. IsSound automaton.now rows) }
     {
         let states = automaton.state_count();
         let indexes = automaton.index_count();
         let first = first_of(alloc, automaton)?;
+        let classes = ByteClasses::new(automaton);
         let width = classes.count + 1;
         let taken = states.saturating_add(indexes).saturating_add(first.len());
         let room = room_within(bytes, width, states, taken);

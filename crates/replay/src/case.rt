@@ -5,6 +5,7 @@ ghost use Rattle.globset.specs.GlobMatches.{glob_matches};
 
 use crate::column::{Columns, Escaped, Indexes, unescaped, unescaped_text, yes_or_no};
 use crate::fault::Fault;
+use crate::relations::{covered, overlapping};
 use globset::{
     Candidate, Error, Glob, GlobBuilder, GlobMatcher, GlobSet, GlobSetBuilder, MatcherSearcher,
     ValueError, escape,
@@ -47,7 +48,7 @@ impl Drop for Globs {
 enum Asked {
     /// Whether it matches the path.
     Path,
-    /// Whether it matches some path below the path, which is a folder.
+    /// Whether it matches some path below the path, which is a directory.
     Below,
 }
 
@@ -79,6 +80,8 @@ impl Globs {
             "escape" => self.escape(columns),
             "value" => self.value(columns),
             "array" => self.array(columns),
+            "covered" => covered(self.alloc, &self.globs, columns),
+            "overlap" => overlapping(self.alloc, &self.globs, columns),
             _ => Err(Fault::Row("no row is of this kind")),
         }
     }
@@ -133,8 +136,8 @@ impl Globs {
     /// Returns the set's answer about a path, and the indexes of the globs whose own matchers say yes. Sets and matchers under
     /// the other limits have to return the same: otherwise this returns all three answers.
     ///
-    /// About a path a set answers which indexes it returns, and whether all globs match; about a folder, whether it matches some
-    /// path below it.
+    /// About a path a set answers which indexes it returns, and whether all globs match; about a directory, whether it matches
+    /// some path below it.
     fn path(&self, columns: &mut Columns<'_>, asked: Asked) -> Result<String, Fault> {
         let bytes = unescaped(self.alloc, columns.next()?)?;
         self.answers(&Candidate::from_bytes(&bytes), asked)
@@ -252,8 +255,8 @@ fn answer_of_one(columns: &str) -> &str {
     }
 }
 
-/// Returns a set's answer about a path: the indexes that it returns, and whether all globs match it; or of a folder whether it
-/// matches some path below it.
+/// Returns a set's answer about a path: the indexes that it returns, and whether all globs match it; or of a directory whether
+/// it matches some path below it.
 fn answer_of_set(
     alloc: Global,
     set: &GlobSet,

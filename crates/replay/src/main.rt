@@ -1,5 +1,5 @@
-//! Replays stored rows about globs, paths, folders, sets and JSON values: each has a call of the crate globset and its result, as
-//! readable text.
+//! Replays stored rows about globs, paths, directories, sets, JSON values and globs compared: each has a call of the crate globset
+//! or glob_relations and its result, as readable text.
 //!
 //! A row is a line whose columns are separated by tabs. The first is its kind, the next columns are the arguments of the call,
 //! and the last are its expected result. An empty line ends a case, and a line that begins with `#` is a comment. The
@@ -10,6 +10,7 @@ mod case;
 mod column;
 mod fault;
 mod files;
+mod relations;
 mod report;
 mod row;
 

@@ -237,11 +237,11 @@ impl Automata {
             && by_extension.state_count() == 0
     }
 
-    /// Returns whether tokens match the part that they are run on of some path below a folder.
+    /// Returns whether tokens match the part that they are run on of some path below a directory.
     ///
-    /// A path below the folder may have any last component, so no automaton is run for that. It may have any extension, so the
-    /// automata of all extensions are run over the folder. Each is run by the rows of its cache if there is any. The sets get
-    /// room for each state of an automaton that is stepped.
+    /// A path below the directory may have any last component, so no automaton is run for that. It may have any extension, so
+    /// the automata of all extensions are run over the directory. Each is run by the rows of its cache if there is any. The
+    /// sets get room for each state of an automaton that is stepped.
     pub fn can_match_below(
         &self,
         folder: &[u8],

@@ -233,7 +233,8 @@ impl SetMatcher {
         Ok(self.keys.count_found(&parts, visits) == Some(self.len()))
     }
 
-    /// Returns whether some glob that is not excluded matches some path below a folder: the folder, a `/`, and any bytes, perhaps none.
+    /// Returns whether some glob that is not excluded matches some path below a directory: the directory, a `/`, and any bytes,
+    /// perhaps none.
     ///
     /// The sets get room for each state of an automaton that is stepped. It allocates nothing if they have that room, or if each
     /// glob is direct.

@@ -136,6 +136,36 @@ static void try_searcher(raw_set set) {
     raw_searcher_free(searcher);
 }
 
+/* The globs are as they were, and can be lent again. Answers are read without memory. */
+static void try_relations(void) {
+    raw_glob made[GLOBS];
+    raw_answers answers = {{&answers}};
+    globset_bytes path;
+    globset_indexes indexes;
+    for (int i = 0; i < GLOBS; i++) made[i] = glob_of(globs[i], 0);
+    TRY(raw_covering(made[0], made, GLOBS, GLOBSET_RELATIVE_PATHS, 1000, &answers), GLOBSET_DONE,
+        CHECK(blocks == before && answers.object.at == &answers));
+    left = 0;
+    CHECK(raw_answers_at(&answers, 0, &path, &indexes) == GLOBSET_NO);
+    left = -1;
+    raw_answers_free(answers);
+    answers.object.at = &answers;
+    TRY(raw_overlap(made[0], made[5], GLOBSET_RELATIVE_PATHS, 1000, &answers), GLOBSET_DONE,
+        CHECK(blocks == before && answers.object.at == &answers));
+    left = 0;
+    CHECK(raw_answers_at(&answers, 0, &path, &indexes) == GLOBSET_YES && path.count == 1 && path.at[0] == 'a');
+    left = -1;
+    raw_answers_free(answers);
+    answers.object.at = &answers;
+    TRY(raw_unreachable(made, GLOBS, GLOBSET_LAST_DECIDES, GLOBSET_ALL_PATHS, 1000, &answers), GLOBSET_DONE,
+        CHECK(blocks == before && answers.object.at == &answers));
+    left = 0;
+    CHECK(raw_answers_at(&answers, 0, &path, &indexes) == GLOBSET_NO && indexes.count == 1 && indexes.at[0] == 5);
+    left = -1;
+    raw_answers_free(answers);
+    for (int i = 0; i < GLOBS; i++) raw_glob_free(made[i]);
+}
+
 /* How many bytes were asked for while a set was made that keeps at most so many bytes of rows. */
 static size_t bytes_of_set(size_t limit) {
     raw_builder builder;
@@ -161,6 +191,7 @@ int main(void) {
     try_questions(set, matcher);
     try_plain(set, matcher);
     try_searcher(set);
+    try_relations();
     raw_matcher_free(matcher);
     raw_set_free(set);
     CHECK(blocks == 0);

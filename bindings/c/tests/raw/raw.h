@@ -21,6 +21,9 @@ typedef struct raw_work {
 typedef struct raw_searcher {
     globset_owned object;
 } raw_searcher;
+typedef struct raw_answers {
+    globset_owned object;
+} raw_answers;
 
 /* A place that may be pointed to where there is nothing. */
 static const size_t raw_no_indexes[1] = {0};
@@ -229,6 +232,43 @@ static inline globset_status raw_escape(const void *text, size_t text_len, char 
     uint8_t none = 0;
     return globset_raw_escape(raw_bytes(text), text_len, room ? (uint8_t *)room : &none, room_len, needed);
 }
+
+/* Handles of some globs, for one call. */
+enum { RAW_GLOBS = 16 };
+static inline void raw_lend_all(const raw_glob *globs, size_t count, globset_lent *lents) {
+    CHECK(count <= RAW_GLOBS);
+    for (size_t i = 0; i < count; i++) lents[i] = raw_lend(globs[i].object);
+}
+
+static inline globset_status raw_covering(raw_glob glob, const raw_glob *by, size_t count, uint32_t domain,
+                                          size_t limit, raw_answers *out) {
+    globset_lent lent = raw_lend(glob.object), lents[RAW_GLOBS];
+    raw_lend_all(by, count, lents);
+    return globset_raw_covering(&lent, lents, count, domain, limit, &out->object);
+}
+
+static inline globset_status raw_overlap(raw_glob a, raw_glob b, uint32_t domain, size_t limit, raw_answers *out) {
+    globset_lent lent_a = raw_lend(a.object), lent_b = raw_lend(b.object);
+    return globset_raw_overlap(&lent_a, &lent_b, domain, limit, &out->object);
+}
+
+static inline globset_status raw_unreachable(const raw_glob *globs, size_t count, uint32_t decides, uint32_t domain,
+                                             size_t limit, raw_answers *out) {
+    globset_lent lents[RAW_GLOBS];
+    raw_lend_all(globs, count, lents);
+    return globset_raw_unreachable(lents, count, decides, domain, limit, &out->object);
+}
+
+/* Reads an answer into places that had something else before. */
+static inline globset_status raw_answers_at(raw_answers *answers, size_t index, globset_bytes *path,
+                                            globset_indexes *indexes) {
+    path->at = (const uint8_t *)raw_no_indexes;
+    indexes->at = raw_no_indexes;
+    path->count = indexes->count = 1;
+    return globset_raw_answers_at(&answers->object, index, path, indexes);
+}
+
+static inline void raw_answers_free(raw_answers answers) { globset_raw_free(answers.object); }
 
 static inline raw_glob glob_of(const char *text, uint32_t options) {
     raw_glob glob;

@@ -40,7 +40,7 @@ impl<'a> Findings<'a> {
         }
     }
 
-    /// Adds each rule that never decides, or for which that is unknown.
+    /// Adds each rule that never decides, and each that may never decide.
     pub fn push_unused(&mut self, alloc: Global, rules: &Rules<'_>) -> Result<(), Fault> {
         let uses = uses(alloc, rules)?;
         for (rule, found) in rules.rules.iter().zip(&uses) {
@@ -56,7 +56,7 @@ impl<'a> Findings<'a> {
         Ok(())
     }
 
-    /// Adds each pair of rules that match a path in common, or for which that is unknown.
+    /// Adds each pair of rules that match a path in common, or may.
     pub fn push_overlaps(&mut self, alloc: Global, rules: &Rules<'_>) -> Result<(), Fault> {
         for (i, rule) in rules.rules.iter().enumerate() {
             for later in rules.rules.iter().skip(i + 1) {
@@ -66,7 +66,7 @@ impl<'a> Findings<'a> {
         Ok(())
     }
 
-    /// Adds a pair of rules, if it is found that they match a path in common, or that is unknown.
+    /// Adds a pair of rules if they match a path in common, or may.
     fn push_overlap(
         &mut self,
         alloc: Global,

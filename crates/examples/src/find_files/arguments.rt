@@ -48,7 +48,7 @@ pub struct Arguments<'a> {
     pub flags: Flags,
     /// The names of the files of globs.
     pub files: Vec<&'a str>,
-    /// The folder, and then globs.
+    /// The directory, and then globs.
     pub words: Vec<&'a str>,
     next: Next,
 }
@@ -66,8 +66,8 @@ impl Drop for Arguments<'_> {
 }
 
 impl<'a> Arguments<'a> {
-    /// Reads the arguments. Fails if an option is unknown, if the folder is missing or empty, or if there is neither a glob nor a
-    /// file of globs nor `--ignored`.
+    /// Reads the arguments. Fails if an option is unknown, if the directory is missing or empty, or if there is neither a glob
+    /// nor a file of globs nor `--ignored`.
     pub fn read(alloc: Global, arguments: &'a [String]) -> Result<Arguments<'a>, Fault> {
         let mut read = Arguments::new(alloc);
         for argument in arguments {
@@ -125,7 +125,7 @@ impl<'a> Arguments<'a> {
         is_search || self.flags.help || self.flags.version
     }
 
-    /// Returns the folder, or nothing if it is missing.
+    /// Returns the directory, or nothing if it is missing.
     pub fn folder(&self) -> &'a str {
         self.words.first().copied().unwrap_or("")
     }

@@ -1,4 +1,4 @@
-//! The globs of a search: which paths match, and which folders can contain a match.
+//! The globs of a search: which paths match, and which directories can contain a match.
 
 use super::arguments::{Arguments, Flags};
 use crate::fault::Fault;
@@ -11,7 +11,7 @@ use std::alloc::Global;
 pub struct Wanted {
     /// Prints it, if it is a file.
     pub is_file: bool,
-    /// Opens it, if it is a folder.
+    /// Opens it, if it is a directory.
     pub is_folder: bool,
 }
 

@@ -2,12 +2,11 @@
 
 use crate::fault::Fault;
 use git_ignore::IgnoreStack;
-use globset::Error;
-use std::alloc::Global;
+use std::alloc::{AllocError, Global};
 use std::fs::{self, FileType};
 use std::io;
 
-/// The ignore files of the walk's current folder and of the folders above it, if they are wanted.
+/// The ignore files of the walk's current directory and of the directories above it, if they are wanted.
 pub struct Ignored {
     stack: Option<IgnoreStack>,
 }
@@ -21,12 +20,13 @@ impl Drop for Ignored {
 
 impl Ignored {
     /// Returns a state without ignore files, which leaves out nothing.
-    pub fn new(alloc: Global, is_asked: bool) -> Result<Ignored, Error> {
-        if !is_asked {
-            return Ok(Ignored { stack: None });
-        }
-        let stack = Some(IgnoreStack::new(alloc)?);
-        Ok(Ignored { stack })
+    pub fn new(alloc: Global, is_asked: bool) -> Ignored {
+        let stack = if is_asked {
+            Some(IgnoreStack::new(alloc))
+        } else {
+            None
+        };
+        Ignored { stack }
     }
 
     /// Returns whether an entry of this kind is printed as a file. git prints symbolic links, too.
@@ -34,7 +34,7 @@ impl Ignored {
         kind.is_file() || (kind.is_symlink() && self.stack.is_some())
     }
 
-    /// Goes to a folder, and reads its ignore files. `below` is the folder's path from the first folder on.
+    /// Goes to a directory, and reads its ignore files. `below` is the directory's path from the first directory on.
     ///
     /// Returns the error of a file that is there and cannot be read.
     pub fn enter(
@@ -55,8 +55,8 @@ impl Ignored {
         add_file(rt, stack, folder, ".gitignore")
     }
 
-    /// Returns whether an entry of the current folder is ignored, or is named `.git`.
-    pub fn leaves_out(&mut self, below: &str, is_folder: bool) -> Result<bool, Error> {
+    /// Returns whether an entry of the current directory is ignored, or is named `.git`.
+    pub fn leaves_out(&mut self, below: &str, is_folder: bool) -> Result<bool, AllocError> {
         let Some(stack) = &mut self.stack else {
             return Ok(false);
         };
@@ -68,8 +68,8 @@ impl Ignored {
     }
 }
 
-/// Goes up to the first common folder, and from there down to this folder. Its path is empty, or ends in `/`.
-fn go_to(stack: &mut IgnoreStack, folder: &[u8]) -> Result<(), Error> {
+/// Goes up to the first common directory, and from there down to this directory. Its path is empty, or ends in `/`.
+fn go_to(stack: &mut IgnoreStack, folder: &[u8]) -> Result<(), AllocError> {
     for _ in 0..u64::MAX {
         if folder.starts_with(stack.folder()) {
             break;
@@ -83,7 +83,7 @@ fn go_to(stack: &mut IgnoreStack, folder: &[u8]) -> Result<(), Error> {
     }
 }
 
-/// Reads an ignore file of the current folder, if it is there and a file. Returns the error if it cannot be read.
+/// Reads an ignore file of the current directory, if it is there and a file. Returns the error if it cannot be read.
 fn add_file(
     rt: &HostRuntime,
     stack: &mut IgnoreStack,

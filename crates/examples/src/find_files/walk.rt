@@ -1,9 +1,9 @@
-//! The walk: the opened folders, and the order of the printed paths.
+//! The walk: the opened directories, and the order of the printed paths.
 //!
-//! There is no recursion: a vector has the pending paths. For each folder above the current place these are its later paths;
+//! There is no recursion: a vector has the pending paths. For each directory above the current place these are its later paths;
 //! printed paths are not among them.
 //!
-//! Paths are in the order of their bytes, where the path of a folder ends in `/`: so `a.c` comes before the contents of `a`,
+//! Paths are in the order of their bytes, where the path of a directory ends in `/`: so `a.c` comes before the contents of `a`,
 //! since `.` is less than `/`.
 
 use super::COMMAND;
@@ -16,18 +16,18 @@ use std::fs::{self, DirEntry, FileType, ReadDir};
 use std::io::{self, BufWriter, ErrorKind, Write};
 use std::process::ExitCode;
 
-/// A walk through a tree of folders.
+/// A walk through a tree of directories.
 pub struct Walk {
     globs: Globs,
     ignored: Ignored,
-    /// The paths of files to print and of folders to open, the next path last. Paths of folders end in `/`. Each path begins with
-    /// that of the first folder.
+    /// The paths of files to print and of directories to open, the next path last. Paths of directories end in `/`. Each path
+    /// begins with that of the first directory.
     pending: Vec<String>,
-    /// How many bytes of a path are not printed: the first folder, and `/`.
+    /// How many bytes of a path are not printed: the first directory, and `/`.
     skipped: usize,
     /// The byte after each printed path.
     end: u8,
-    /// Whether folders are counted.
+    /// Whether directories are counted.
     counts: bool,
     opened: u64,
     left_closed: u64,
@@ -99,7 +99,7 @@ impl Walk {
         }
     }
 
-    /// Prints the numbers of folders, if they are wanted, and returns the exit status.
+    /// Prints the numbers of directories, if they are wanted, and returns the exit status.
     fn finish(&self, rt: &HostRuntime) -> ExitCode {
         if self.counts {
             let (opened, closed) = (self.opened, self.left_closed);
@@ -125,7 +125,7 @@ impl Walk {
         Ok(())
     }
 
-    /// Opens a folder, or prints the path of a file.
+    /// Opens a directory, or prints the path of a file.
     fn visit<W: Write>(
         &mut self,
         rt: &HostRuntime,
@@ -154,7 +154,7 @@ impl Walk {
         path.get(self.skipped..).unwrap_or(path)
     }
 
-    /// Opens a folder. Its entries are then pending, in the order of their bytes.
+    /// Opens a directory. Its entries are then pending, in the order of their bytes.
     fn open(&mut self, rt: &HostRuntime, folder: &str) -> Result<(), Fault> {
         self.opened = self.opened.saturating_add(1);
         self.read_ignore_files(rt, folder)?;
@@ -169,7 +169,7 @@ impl Walk {
         Ok(())
     }
 
-    /// Reads the ignore files of a folder, if they are wanted.
+    /// Reads the ignore files of a directory, if they are wanted.
     fn read_ignore_files(&mut self, rt: &HostRuntime, folder: &str) -> Result<(), Fault> {
         let below = self.shown(folder);
         if let Some(error) = self.ignored.enter(rt, folder, below)? {
@@ -178,7 +178,7 @@ impl Walk {
         Ok(())
     }
 
-    /// Takes the entries of a folder.
+    /// Takes the entries of a directory.
     fn take_all(&mut self, rt: &HostRuntime, folder: &str, entries: ReadDir) -> Result<(), Fault> {
         for entry in entries {
             match entry {
@@ -189,7 +189,7 @@ impl Walk {
         Ok(())
     }
 
-    /// Takes an entry of a folder. It gets the type only where that matters.
+    /// Takes an entry of a directory. It gets the type only where that matters.
     fn take(&mut self, rt: &HostRuntime, entry: &DirEntry) -> Result<(), Fault> {
         let path = entry.path().as_str();
         let shown = self.shown(path);
@@ -206,7 +206,7 @@ impl Walk {
         }
     }
 
-    /// Takes an entry of this kind, unless it is ignored. A folder that is ignored is left closed.
+    /// Takes an entry of this kind, unless it is ignored. A directory that is ignored is left closed.
     fn take_kind(
         &mut self,
         alloc: Global,
@@ -224,7 +224,7 @@ impl Walk {
     }
 
     /// Adds a path to the pending paths, if it is wanted. Links are left out, unless ignore files are read, as git prints them.
-    /// Other things that are neither a file nor a folder are left out, too.
+    /// Other things that are neither a file nor a directory are left out, too.
     fn push(
         &mut self,
         alloc: Global,
@@ -241,7 +241,7 @@ impl Walk {
         }
     }
 
-    /// Adds a folder to the pending paths, if it is wanted, and otherwise counts it as left closed.
+    /// Adds a directory to the pending paths, if it is wanted, and otherwise counts it as left closed.
     fn push_folder(
         &mut self,
         alloc: Global,
@@ -264,19 +264,19 @@ impl Walk {
     }
 }
 
-/// Returns the pending paths before the first folder is opened: the folder's.
+/// Returns the pending paths before the first directory is opened: the directory's.
 pub fn first_pending(alloc: Global, folder: &str) -> Result<Vec<String>, AllocError> {
     let mut pending = Vec::new(alloc);
     pending.push(with_slash(alloc, folder.strip_suffix('/').unwrap_or(folder))?)?;
     Ok(pending)
 }
 
-/// Returns the path of a folder with `/` at its end.
+/// Returns the path of a directory with `/` at its end.
 fn with_slash(alloc: Global, folder: &str) -> Result<String, AllocError> {
     format!(in alloc; "{folder}/")
 }
 
-/// Returns the error of a path that cannot be read, with a text of its own for a name in a folder that is not UTF-8.
+/// Returns the error of a path that cannot be read, with a text of its own for a name in a directory that is not UTF-8.
 fn said(error: io::Error) -> io::Error {
     // A path that is too long for the system has the same kind, and a number.
     match (error.kind(), error.raw_os_error()) {

@@ -81,7 +81,7 @@ fn push_fields(
     }
 }
 
-/// Returns the line that decides about a path: the line that ignores its highest ignored folder, if there is any.
+/// Returns the line that decides about a path: the line that ignores its highest ignored directory, if there is any.
 fn deciding_below(files: &mut [IgnoreFile], path: &[u8], is_folder: bool) -> Option<Found> {
     for (end, byte) in path.iter().enumerate() {
         if *byte == b'/' {

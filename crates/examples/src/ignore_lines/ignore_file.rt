@@ -1,8 +1,8 @@
-//! An ignore file for its own folder.
+//! An ignore file for its own directory.
 
 use crate::fault::Fault;
 use crate::text_file::TextFile;
-use git_ignore::{Decision, Rules, RulesSearcher};
+use git_ignore::{Decision, RulesBuilder, RulesSearcher};
 use memchr::{memchr, memrchr};
 use std::alloc::Global;
 
@@ -33,8 +33,9 @@ pub struct DecidingLine {
 
 impl IgnoreFile {
     /// Takes a file, and reads its rules.
-    pub fn new(alloc: Global, text: TextFile) -> Result<IgnoreFile, Fault> {
-        let searcher = RulesSearcher::new(alloc, &Rules::new(alloc, text.bytes())?)?;
+    pub fn new(alloc: Global, text: TextFile, ignore_case: bool) -> Result<IgnoreFile, Fault> {
+        let builder = RulesBuilder::new().ignore_case(ignore_case);
+        let searcher = RulesSearcher::new(alloc, &builder.build(alloc, text.bytes())?)?;
         Ok(IgnoreFile { text, searcher })
     }
 
@@ -43,7 +44,7 @@ impl IgnoreFile {
         self.text.name()
     }
 
-    /// Returns the file's folder, by its name: empty, or with `/` at its end.
+    /// Returns the file's directory, by its name: empty, or with `/` at its end.
     pub fn folder(&self) -> &[u8] {
         let name = self.text.name().as_bytes();
         match memrchr(b'/', name) {
@@ -52,7 +53,7 @@ impl IgnoreFile {
         }
     }
 
-    /// Returns the line that decides about a path, if the path is below the folder and a line does.
+    /// Returns the line that decides about a path, if the path is below the directory and a line does.
     pub fn deciding_line(&mut self, path: &[u8], is_folder: bool) -> Option<DecidingLine> {
         let below = path.strip_prefix(self.folder())?;
         let number = self.searcher.deciding_line(below, is_folder)?;

@@ -3,11 +3,10 @@ use Rattle.std.proofs.Common.{◌≡◌, ℕ, zero, suc, ◌+◌, List, [], ◌�
 use Rattle.std.specs.Prelude.{◌==◌, Option, Some, None, if◌then◌else◌}
 use Rattle.memchr.specs.Find.{IsFirstByte, is_byte}
 use Rattle.ignore_pattern.specs.Lines.{lines_of, onto_first}
-use Rattle.ignore_pattern.specs.Patterns.{Pattern, read_pattern}
+use Rattle.ignore_pattern.specs.Patterns.{Pattern, pattern_of_line}
 use Rattle.git_ignore.specs.Rules.{Rule, rules_from}
-use Rattle.globset.specs.GlobMatches.{GlobValue}
 use Rattle.git_ignore.specs.declared.entry.RuleEntry.{RuleEntry}
-use Rattle.git_ignore.specs.inner.Entries.{AreEntriesOf, AreReadUpTo, rule_at}
+use Rattle.git_ignore.specs.inner.Entries.{AddsRules, ArePartsOf, AreReadUpTo, rule_at}
 
 if_not : {X : Type 0} (b : Bool) (x y : X) → ¬ (b ≡ true) → (if b then x else y) ≡ y
 if_not true x y n = absurd (n refl)
@@ -41,34 +40,30 @@ rules_split : (o : Option Pattern) (n : ℕ) (rules : List Rule)
 rules_split None n rules = refl
 rules_split (Some p) n rules = refl
 
-pub rules_of_first : (n : ℕ) (line : List ℕ) (lines : List (List ℕ)) → rules_from n (line ∷ lines) ≡ rule_at n (read_pattern line) ++ rules_from (suc n) lines
-rules_of_first n line lines = rules_split (read_pattern line) n (rules_from (suc n) lines)
-
--- what adding the rule of a line does
-abbrev pub AddsLine : List GlobValue → List RuleEntry → ℕ → List ℕ → List GlobValue → List RuleEntry → Type 0
-AddsLine gs es n line hs ds = (done : List Rule) → AreEntriesOf done gs es → AreEntriesOf (done ++ rule_at n (read_pattern line)) hs ds
+pub rules_of_first : (n : ℕ) (line : List ℕ) (lines : List (List ℕ)) → rules_from n (line ∷ lines) ≡ rule_at n (pattern_of_line line) ++ rules_from (suc n) lines
+rules_of_first n line lines = rules_split (pattern_of_line line) n (rules_from (suc n) lines)
 
 -- the next line was read
-pub next_read : (all : List Rule) (gs hs : List GlobValue) (es ds : List RuleEntry) (n i : ℕ) (rest line after : List ℕ)
-    → AreReadUpTo all (rules_from n (lines_of rest)) gs es → IsFirstByte (is_byte 10) rest (Some i) → line ≡ take i rest → after ≡ drop (i + 1) rest
-    → AddsLine gs es n line hs ds → AreReadUpTo all (rules_from (n + 1) (lines_of after)) hs ds
-next_read all gs hs es ds n i rest line after h first is_line is_after adds =
+pub next_read : (all : List Rule) (ps qs : List Pattern) (es ds : List RuleEntry) (n i : ℕ) (rest line after : List ℕ)
+    → AreReadUpTo all (rules_from n (lines_of rest)) ps es → IsFirstByte (is_byte 10) rest (Some i) → line ≡ take i rest → after ≡ drop (i + 1) rest
+    → AddsRules (rule_at n (pattern_of_line line)) ps es qs ds → AreReadUpTo all (rules_from (n + 1) (lines_of after)) qs ds
+next_read all ps qs es ds n i rest line after h first is_line is_after adds =
     let next : suc n ≡ n + 1 = omega arith in
     record {
-      done = h.done ++ rule_at n (read_pattern line);
+      done = h.done ++ rule_at n (pattern_of_line line);
       split = h.split
           ∙ ap (λ (ls : List (List ℕ)). h.done ++ rules_from n ls) (first_line rest i first)
           ∙ ap (λ (rs : List Rule). h.done ++ rs) (rules_of_first n (take i rest) (lines_of (drop (i + 1) rest)))
-          ∙ (λ k. h.done ++ (rule_at n (read_pattern (sym is_line k)) ++ rules_from (next k) (lines_of (sym is_after k))))
-          ∙ sym (append_assoc h.done (rule_at n (read_pattern line)) (rules_from (n + 1) (lines_of after)));
+          ∙ (λ k. h.done ++ (rule_at n (pattern_of_line (sym is_line k)) ++ rules_from (next k) (lines_of (sym is_after k))))
+          ∙ sym (append_assoc h.done (rule_at n (pattern_of_line line)) (rules_from (n + 1) (lines_of after)));
       stored = adds h.done h.stored;
     }
 
 -- the last line was read
-pub last_read : (all : List Rule) (gs hs : List GlobValue) (es ds : List RuleEntry) (n : ℕ) (rest : List ℕ)
-    → AreReadUpTo all (rules_from n (lines_of rest)) gs es → IsFirstByte (is_byte 10) rest None → AddsLine gs es n rest hs ds → AreEntriesOf all hs ds
-last_read all gs hs es ds n rest h none adds =
-    let same : all ≡ h.done ++ rule_at n (read_pattern rest) =
+pub last_read : (all : List Rule) (ps qs : List Pattern) (es ds : List RuleEntry) (n : ℕ) (rest : List ℕ)
+    → AreReadUpTo all (rules_from n (lines_of rest)) ps es → IsFirstByte (is_byte 10) rest None → AddsRules (rule_at n (pattern_of_line rest)) ps es qs ds → ArePartsOf all qs ds
+last_read all ps qs es ds n rest h none adds =
+    let same : all ≡ h.done ++ rule_at n (pattern_of_line rest) =
     h.split ∙ ap (λ (ls : List (List ℕ)). h.done ++ rules_from n ls) (one_line rest none)
-    ∙ ap (λ (rs : List Rule). h.done ++ rs) (rules_of_first n rest [] ∙ append-nil (rule_at n (read_pattern rest))) in
-    subst (λ (rs : List Rule). AreEntriesOf rs hs ds) (sym same) (adds h.done h.stored)
+    ∙ ap (λ (rs : List Rule). h.done ++ rs) (rules_of_first n rest [] ∙ append-nil (rule_at n (pattern_of_line rest))) in
+    subst (λ (rs : List Rule). ArePartsOf rs qs ds) (sym same) (adds h.done h.stored)

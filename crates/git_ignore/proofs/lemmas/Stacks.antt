@@ -7,11 +7,10 @@ use Rattle.std.proofs.lemmas.Bool.{false_from_ne_true}
 use Rattle.std.proofs.lemmas.List.{map-append, take_more, take-append-le, length-take}
 use Rattle.std.proofs.lemmas.Slice.Eq.{bytes_eq-Decides}
 use Rattle.std.proofs.Math.Seq.{take-append_seam, take-length}
-use Rattle.globset.specs.SetValue.{ScratchValue, FitsAsBefore}
 use Rattle.git_ignore.specs.Folders.{IgnoreFile, is_in, file_decision, files_decision}
 use Rattle.git_ignore.specs.TwoRules.{or_else, folders_above, ignores, is_below_ignored}
 use Rattle.git_ignore.specs.Rules.{decision}
-use Rattle.git_ignore.specs.RulesValue.{FitsRules}
+use Rattle.git_ignore.specs.RulesValue.{FitsAsBefore, FitsRules, ScratchValue}
 use Rattle.git_ignore.specs.declared.decision.Decision.{Decision}
 use Rattle.git_ignore.specs.declared.decision.Decision.TheVariants.{Undecided}
 use Rattle.git_ignore.specs.declared.folder_rules.FolderRules.{FolderRules}
@@ -63,7 +62,7 @@ says_nothing : (files : List IgnoreFile) (f : IgnoreFile) (fs : List (List ℕ))
 says_nothing files f [] h = refl
 says_nothing files f (p ∷ fs) (h, hs) =
     let here : files_decision (files ++ f ∷ []) p true ≡ files_decision files p true =
-    file_more files f p true ∙ ap (λ (b : Bool). or_else (if b then decision f.bytes (drop (length f.folder) p) true else Undecided) (files_decision files p true)) (not_in f.folder p h) in
+    file_more files f p true ∙ ap (λ (b : Bool). or_else (if b then decision f.ignore_case f.bytes (drop (length f.folder) p) true else Undecided) (files_decision files p true)) (not_in f.folder p h) in
     (λ i. ignores (here i) || says_nothing files f fs hs i)
 
 pub added_kept : (files : List IgnoreFile) (f : IgnoreFile) → is_below_ignored (files_decision (files ++ f ∷ [])) f.folder ≡ is_below_ignored (files_decision files) f.folder
@@ -100,7 +99,7 @@ level_pushed folder more files l ls e n i h =
 -- ---- scratches
 
 pub fit_still : (old new : ScratchValue) (files : List FolderRules) → FitsAsBefore old new → FitAll old files → FitAll new files
-fit_still old new files h all k d within = h _ _ (all k d within)
+fit_still old new files h all k d within = h _ (all k d within)
 
 pub fit_one : (scratch : ScratchValue) (f : FolderRules) → FitsRules scratch f.rules → FitAll scratch (f ∷ [])
 fit_one scratch f h zero d within = h

@@ -1,12 +1,17 @@
--- The stored form of a file's rules: their globs, and an entry for each. No contract of the crate's public calls cites this.
-use Rattle.std.specs.Prelude.{◌≡◌, ℕ, Bool, not, ◌&&◌, ◌||◌, List, [], ◌∷◌, ◌++◌, Option, Some, None, if◌then◌else◌, length, slice_get}
-use Rattle.globset.specs.GlobMatches.{GlobValue}
-use Rattle.globset.specs.Excluded.{is_reported}
+-- The stored form of a file's rules: an automaton of their patterns, and an entry for each rule. No contract of the crate's public
+-- calls cites this.
+use Rattle.std.specs.Prelude.{◌≡◌, ℕ, zero, suc, Bool, not, ◌||◌, List, [], ◌∷◌, Option, Some, None, if◌then◌else◌, map, slice_get, IfSome, ◌++◌}
+use Rattle.byte_nfa.specs.Runs.{size}
+use Rattle.byte_nfa.specs.Steps.{NfaValue}
+use Rattle.ignore_pattern.specs.Automata.{IsAutomatonOf}
 use Rattle.ignore_pattern.specs.Patterns.{Pattern}
-use Rattle.git_ignore.specs.Rules.{Rule, last_rule}
+use Rattle.git_ignore.specs.Rules.{Rule}
+use Rattle.git_ignore.specs.RulesValue.{RulesValue, ScratchValue, FitsRules}
 use Rattle.git_ignore.specs.declared.decision.Decision.{Decision}
 use Rattle.git_ignore.specs.declared.decision.Decision.TheVariants.{Ignored, Kept, Undecided}
 use Rattle.git_ignore.specs.declared.entry.RuleEntry.{RuleEntry}
+
+-- ---- entries
 
 -- the rule of the entry is for paths of this kind
 abbrev pub is_for : Bool → RuleEntry → Bool
@@ -31,40 +36,65 @@ abbrev pub line_of_entry : Option RuleEntry → Option ℕ
 line_of_entry None = None
 line_of_entry (Some e) = Some e.line
 
--- of entries, each with its glob, the last that applies to a path
-abbrev pub last_entry : List ℕ → Bool → List GlobValue → List RuleEntry → Option RuleEntry
-last_entry path is_folder [] es = None
-last_entry path is_folder (g ∷ gs) [] = None
-last_entry path is_folder (g ∷ gs) (e ∷ es) = elim (last_entry path is_folder gs es)
-    [ Some last ↦ Some last | None ↦ if is_for is_folder e && is_reported g path then Some e else None ]
+-- the entry at an index that is found, if it is for paths of this kind, and otherwise the entry before
+abbrev pub chosen : Bool → Option RuleEntry → Option RuleEntry → Option RuleEntry
+chosen is_folder before None = before
+chosen is_folder before (Some e) = if is_for is_folder e then Some e else before
 
--- The globs and entries of the rules that match something. For each path the last entry that applies belongs to the last rule
--- that applies.
-pub record AreEntriesOf (rules : List Rule) (globs : List GlobValue) (entries : List RuleEntry) : Type 0 where
-  pub count : length entries ≡ length globs
-  pub last : (path : List ℕ) (is_folder : Bool) → last_entry path is_folder globs entries ≡ entry_of_rule (last_rule path is_folder rules)
+-- of the entries below an index, the last that is found and is for paths of this kind
+abbrev pub last_found : (ℕ → Bool) → Bool → List RuleEntry → ℕ → Option RuleEntry
+last_found is_found is_folder entries zero = None
+last_found is_found is_folder entries (suc k) =
+    let before = last_found is_found is_folder entries k in
+    if is_found k then chosen is_folder before (slice_get entries k) else before
 
--- These are the globs and entries of more rules than before.
-abbrev pub AddsRules : List Rule → List GlobValue → List RuleEntry → List GlobValue → List RuleEntry → Type 0
-AddsRules more globs entries globs' entries' = (rules : List Rule) → AreEntriesOf rules globs entries → AreEntriesOf (rules ++ more) globs' entries'
+-- ---- rules as they are read
 
 -- the rule of a line, if it has a pattern
 abbrev pub rule_at : ℕ → Option Pattern → List Rule
 rule_at number None = []
 rule_at number (Some p) = record { line = number; pattern = p } ∷ []
 
--- the entry at an index that a set found, if it is for paths of this kind, and otherwise the entry before
-abbrev pub chosen : Bool → Option RuleEntry → Option RuleEntry → Option RuleEntry
-chosen is_folder before None = before
-chosen is_folder before (Some e) = if is_for is_folder e then Some e else before
+abbrev pub patterns_of : List Rule → List Pattern
+patterns_of rules = map (λ (rule : Rule). rule.pattern) rules
 
--- of the entries at these indexes, the last that is for paths of this kind; `before` if there is none
-abbrev pub last_chosen : List RuleEntry → Bool → Option RuleEntry → List ℕ → Option RuleEntry
-last_chosen entries is_folder before [] = before
-last_chosen entries is_folder before (i ∷ is) = last_chosen entries is_folder (chosen is_folder before (slice_get entries i)) is
+abbrev pub entries_of : List Rule → List RuleEntry
+entries_of rules = map entry_of rules
+
+-- the patterns and the entries of rules
+pub record ArePartsOf (rules : List Rule) (patterns : List Pattern) (entries : List RuleEntry) : Type 0 where
+  pub same_patterns : patterns ≡ patterns_of rules
+  pub same_entries : entries ≡ entries_of rules
+
+-- These are the parts of more rules than before.
+abbrev pub AddsRules : List Rule → List Pattern → List RuleEntry → List Pattern → List RuleEntry → Type 0
+AddsRules more patterns entries patterns' entries' = (rules : List Rule) → ArePartsOf rules patterns entries → ArePartsOf (rules ++ more) patterns' entries'
 
 -- The first rules of a file were read, and these are still to be read.
-pub record AreReadUpTo (all rest : List Rule) (globs : List GlobValue) (entries : List RuleEntry) : Type 0 where
+pub record AreReadUpTo (all rest : List Rule) (patterns : List Pattern) (entries : List RuleEntry) : Type 0 where
   pub done : List Rule
   pub split : all ≡ done ++ rest
-  pub stored : AreEntriesOf done globs entries
+  pub stored : ArePartsOf done patterns entries
+
+-- ---- rules as they are stored
+
+-- Stored rules are seen as the bytes of their file, whether case is ignored, the automaton of their patterns, and the number of the
+-- rules.
+pub record StoredValue : Type 0 where
+  pub file : List ℕ
+  pub ignore_case : Bool
+  pub automaton : NfaValue
+  pub rules : ℕ
+
+abbrev pub rules_value : StoredValue → RulesValue
+rules_value s = record { file = s.file; ignore_case = s.ignore_case; states = size s.automaton; rules = s.rules }
+
+-- the automaton finds the patterns of the rules, and these are the entries of the rules
+pub record AreStored (ignore_case : Bool) (rules : List Rule) (automaton : NfaValue) (entries : List RuleEntry) : Type 0 where
+  pub finds_patterns : IsAutomatonOf ignore_case (patterns_of rules) automaton
+  pub same_entries : entries ≡ entries_of rules
+
+-- the memory of a searcher: the scratch fits the rules, and the cache is for their automaton
+pub record IsSearcherOf (stored : StoredValue) (scratch : ScratchValue) (cache : Option NfaValue) : Type 0 where
+  pub fits : FitsRules scratch (rules_value stored)
+  pub for_automaton : IfSome cache (λ c. c ≡ stored.automaton)

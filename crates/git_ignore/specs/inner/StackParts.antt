@@ -1,6 +1,6 @@
 -- A walk by its stored form. No contract of the crate's public calls cites this.
 use Rattle.std.specs.Prelude.{◌≡◌, ℕ, Bool, List, reverse}
-use Rattle.globset.specs.SetValue.{ScratchValue}
+use Rattle.git_ignore.specs.RulesValue.{ScratchValue}
 use Rattle.git_ignore.specs.Folders.{IgnoreFile, files_decision}
 use Rattle.git_ignore.specs.TwoRules.{is_below_ignored}
 use Rattle.git_ignore.specs.StackValue.{StackValue}
@@ -9,14 +9,14 @@ use Rattle.git_ignore.specs.declared.stack.FolderLevel.{FolderLevel}
 use Rattle.git_ignore.specs.inner.Stacks.{AreInFolders, AreLevels, FitAll, above_of, files_of, here_of}
 
 -- the walk in a folder, with its files and the files above it, and with the levels above it, from the nearest up
-abbrev pub walk_of : List ℕ → List IgnoreFile → List FolderLevel → StackValue
-walk_of folder files levels = record { here = here_of folder files levels; above = above_of folder files levels }
+abbrev pub walk_of : Bool → List ℕ → List IgnoreFile → List FolderLevel → StackValue
+walk_of ignore_case folder files levels = record { ignore_case = ignore_case; here = here_of folder files levels; above = above_of folder files levels }
 
-abbrev pub stack_value : List ℕ → List FolderRules → List FolderLevel → StackValue
-stack_value folder files levels = walk_of folder (files_of files) (reverse levels)
+abbrev pub stack_value : Bool → List ℕ → List FolderRules → List FolderLevel → StackValue
+stack_value ignore_case folder files levels = walk_of ignore_case folder (files_of files) (reverse levels)
 
-pub record IsStack (folder : List ℕ) (is_ignored : Bool) (files : List FolderRules) (levels : List FolderLevel) (scratch : ScratchValue) : Type 0 where
+pub record IsStack (ignore_case : Bool) (folder : List ℕ) (is_ignored : Bool) (files : List FolderRules) (levels : List FolderLevel) (scratch : ScratchValue) : Type 0 where
   pub ignored : is_ignored ≡ is_below_ignored (files_decision (files_of files)) folder
   pub above : AreLevels folder (files_of files) (reverse levels)
-  pub placed : AreInFolders folder (files_of files) (reverse levels)
+  pub placed : AreInFolders ignore_case folder (files_of files) (reverse levels)
   pub fits : FitAll scratch files

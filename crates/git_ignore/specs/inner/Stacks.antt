@@ -1,16 +1,15 @@
 -- The stored form of a walk. No contract of the crate's public calls cites this.
-use Rattle.std.specs.Prelude.{◌≡◌, ◌≤◌, ℕ, List, [], ◌∷◌, map, length, take, drop, All}
-use Rattle.globset.specs.SetValue.{ScratchValue}
+use Rattle.std.specs.Prelude.{◌≡◌, ◌≤◌, ℕ, Bool, List, [], ◌∷◌, map, length, take, drop, All}
 use Rattle.git_ignore.specs.Folders.{IgnoreFile, files_decision}
 use Rattle.git_ignore.specs.TwoRules.{is_below_ignored}
-use Rattle.git_ignore.specs.RulesValue.{FitsRules}
+use Rattle.git_ignore.specs.RulesValue.{FitsRules, ScratchValue}
 use Rattle.git_ignore.specs.StackValue.{OpenFolder}
 use Rattle.git_ignore.specs.declared.folder_rules.FolderRules.{FolderRules}
 use Rattle.git_ignore.specs.declared.stack.FolderLevel.{FolderLevel}
 
 -- the ignore file of rules, and its folder
 abbrev pub file_of : FolderRules → IgnoreFile
-file_of r = record { folder = r.folder.items; bytes = r.rules.file }
+file_of r = record { folder = r.folder.items; bytes = r.rules.file; ignore_case = r.rules.ignore_case }
 
 abbrev pub files_of : List FolderRules → List IgnoreFile
 files_of files = map file_of files
@@ -44,12 +43,12 @@ abbrev pub above_of : List ℕ → List IgnoreFile → List FolderLevel → List
 above_of folder files [] = []
 above_of folder files (l ∷ ls) = here_of (take l.folder folder) (take l.files files) ls ∷ above_of (take l.folder folder) (take l.files files) ls
 
--- each file is in the folder
-abbrev pub AreIn : List ℕ → List IgnoreFile → Type 0
-AreIn folder [] = Unit {0}
-AreIn folder (f ∷ fs) = (f.folder ≡ folder) × AreIn folder fs
+-- each file is in the folder, and its rules ignore case or not, as is given
+abbrev pub AreIn : Bool → List ℕ → List IgnoreFile → Type 0
+AreIn ignore_case folder [] = Unit {0}
+AreIn ignore_case folder (f ∷ fs) = (f ≡ record { folder = folder; bytes = f.bytes; ignore_case = ignore_case }) × AreIn ignore_case folder fs
 
 -- each file is in the folder to whose files it belongs
-abbrev pub AreInFolders : List ℕ → List IgnoreFile → List FolderLevel → Type 0
-AreInFolders folder files [] = AreIn folder files
-AreInFolders folder files (l ∷ ls) = AreIn folder (drop l.files files) × AreInFolders (take l.folder folder) (take l.files files) ls
+abbrev pub AreInFolders : Bool → List ℕ → List IgnoreFile → List FolderLevel → Type 0
+AreInFolders ignore_case folder files [] = AreIn ignore_case folder files
+AreInFolders ignore_case folder files (l ∷ ls) = AreIn ignore_case folder (drop l.files files) × AreInFolders ignore_case (take l.folder folder) (take l.files files) ls

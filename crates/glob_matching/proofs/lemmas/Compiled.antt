@@ -9,8 +9,7 @@ use Rattle.glob_strategy.specs.IndexedTokens.{SomeMeanAfter}
 use Rattle.glob_strategy.specs.IndexedTokens.{IndexedTokens, SomeMatches, IsFor}
 use Rattle.bit_sets.specs.declared.index_set.IndexSet.{IndexSet}
 use Rattle.bit_sets.proofs.lemmas.Texts.{all_bytes}
-use Rattle.glob_matching.specs.Matching.{AddsMatches, TellsMatch}
-use Rattle.glob_matching.specs.inner.Found.{AddsReached}
+use Rattle.glob_matching.specs.Matching.{AddsMatches, AddsReached, TellsMatch}
 use Rattle.glob_strategy.proofs.lemmas.IndexedTokens.{reached_matches}
 
 -- beside what was found before

@@ -7,7 +7,8 @@ use Rattle.bit_sets.specs.Indexes.{has_index}
 use Rattle.bit_sets.specs.declared.index_set.IndexSet.{IndexSet}
 use Rattle.byte_nfa.specs.Live.{MatchesAfter}
 use Rattle.byte_nfa.specs.Steps.{NfaValue, IsReached}
-use Rattle.glob_matching.specs.inner.Found.{AddsReached, AddsSome}
+use Rattle.glob_matching.specs.Matching.{AddsReached}
+use Rattle.glob_matching.specs.inner.Found.{AddsSome}
 
 -- no text goes on where none leads to an end
 pub never_after : (m : NfaValue) → ((y : List ℕ) (k : ℕ) → IsReached m y k → ⊥) → (text : List ℕ) (byte : ℕ) → IsTrue false ↔ MatchesAfter m (text ++ byte ∷ [])

@@ -1,4 +1,4 @@
-//! The calls on a set for a path and for a folder.
+//! The calls on a set for a path and for a directory.
 
 ghost use Rattle.std.specs.Prelude.{◌≡◌, ◌≢◌, ◌+◌, ◌≤◌, ◌↔◌, [], IfOk, IsOk, IsOkUnless, OnOk, OnErr, IsTrue, length, vec_capacity};
 ghost use Rattle.globset_glob.specs.Errors.{out_of_memory};
@@ -24,8 +24,15 @@ impl GlobSet {
         ensures succeeds_if_empty { set_globs self.now ≡ [] → IsOk result }
     {
         let mut indexes = Vec::new(alloc);
-        let mut visits = Visits::new();
-        self.matches_visits(&Candidate::new(path.path_text()), &mut indexes, &mut visits)?;
+        if let Some(matcher) = self.matcher() {
+            matcher.find(
+                &Candidate::new(path.path_text()),
+                &mut matcher.new_scratch(),
+                &mut Caches::none(),
+                &mut indexes,
+                &mut Visits::new(),
+            )?;
+        }
         Ok(indexes)
     }
 
@@ -341,12 +348,12 @@ impl GlobSet {
             .unwrap()
     }
 
-    /// Returns whether some glob that is not excluded matches some path below a folder. If this returns false, a walk can skip
-    /// the folder and everything below it.
+    /// Returns whether some glob that is not excluded matches some path below a directory. If this returns false, a walk can
+    /// skip the directory and everything below it.
     ///
-    /// A path below a folder is the folder, a `/`, and any bytes, perhaps none. So `a/**` and `a/` match a path below `a`, and
-    /// `a` does not. The folder is taken as it is: below `a/` are the paths that begin with `a//`. Below the empty folder are the
-    /// paths that begin with `/`, so a walk over relative paths always opens the folder where it begins.
+    /// A path below a directory is the directory, a `/`, and any bytes, perhaps none. So `a/**` and `a/` match a path below
+    /// `a`, and `a` does not. The directory is taken as it is: below `a/` are the paths that begin with `a//`. Below the empty
+    /// directory are the paths that begin with `/`, so a walk over relative paths always opens the directory where it begins.
     ///
     /// For several sets, or for bytes that are not UTF-8, create a [`Candidate`] and call [`GlobSet::can_match_below_candidate`].
     /// A walk makes a [`Searcher`](crate::Searcher) once, whose calls neither allocate nor fail.
@@ -388,9 +395,10 @@ impl GlobSet {
 
     /// Like [`GlobSet::can_match_below_candidate`], but also counts the visits.
     ///
-    /// It adds at most `4 + 2 * (folder bytes + 2)`. Each glob that is not direct adds `folder bytes + 2` times `4 * glob bytes +
-    /// 4` (`16 * glob bytes + 4` under `whole_character`). The bound also holds after an error; a set without globs adds none.
-    /// The automata of all extensions may be run, each once. Those that are stepped take two bits of memory for each state.
+    /// It adds at most `4 + 2 * (directory bytes + 2)`. Each glob that is not direct adds `directory bytes + 2` times
+    /// `4 * glob bytes + 4` (`16 * glob bytes + 4` under `whole_character`). The bound also holds after an error; a set without
+    /// globs adds none. The automata of all extensions may be run, each once. Those that are stepped take two bits of memory
+    /// for each state.
     ///
     /// It allocates nothing if each glob is direct.
     pub fn can_match_below_visits(
@@ -430,7 +438,7 @@ impl GlobSet {
     /// let mut scratch = Scratch::new(alloc, &set)?;
     /// let mut visits = Visits::new();
     ///
-    /// // A walk has come to the folder `target`. It opens it only if some path below it can match.
+    /// // A walk has come to the directory `target`. It opens it only if some path below it can match.
     /// let folder = Candidate::new("target");
     /// assert!(rt; !set.can_match_below_with(&folder, &mut scratch, &mut visits));
     /// ```

@@ -1,18 +1,15 @@
 -- Facts about truth values.
-use Rattle.std.proofs.Common.{◌≡◌, Bool, true, false, ◌&&◌, ◌||◌, refl}
+use Rattle.std.proofs.Common.{◌≡◌, ◌⊎◌, inl, inr, Bool, true, false, true≢false, ◌&&◌, ◌||◌, refl, sym}
+pub use Rattle.std.proofs.lemmas.Bool.{and_from as and_both, or_left as or_first, or_right as or_second}
 
-pub or_none : (p : Bool) → (p || false) ≡ p
-or_none true = refl
-or_none false = refl
+pub and_first : (x y : Bool) → (x && y) ≡ true → x ≡ true
+and_first true y e = refl
+and_first false y e = e
 
-pub or_assoc : (p q r : Bool) → (p || (q || r)) ≡ ((p || q) || r)
-or_assoc true q r = refl
-or_assoc false q r = refl
+pub and_second : (x y : Bool) → (x && y) ≡ true → y ≡ true
+and_second true y e = e
+and_second false y e = absurd (true≢false (sym e))
 
-pub and_true : (p : Bool) → (p && true) ≡ p
-and_true true = refl
-and_true false = refl
-
-pub and_none : (p : Bool) → (p && false) ≡ false
-and_none true = refl
-and_none false = refl
+pub or_either : (x y : Bool) → (x || y) ≡ true → (x ≡ true) ⊎ (y ≡ true)
+or_either true y e = inl refl
+or_either false y e = inr e

@@ -1,16 +1,25 @@
 -- The items of a class, as a loop reads them.
 use Rattle.std.proofs.Common.{◌≡◌, ℕ, zero, suc, ◌+◌, ◌-◌, ◌≤◌, Bool, true, false, not, ◌&&◌, ◌==◌, List, [], ◌∷◌, ◌++◌, length, drop, Option, Some, None, refl, sym, ◌∙◌, ap, arith, append_assoc, append-nil, length-drop}
 use Rattle.std.proofs.lemmas.List.{nil_from_length}
+use Rattle.std.specs.Option.{option_map}
 use Rattle.ignore_pattern.specs.declared.item.Item.{Item}
 use Rattle.ignore_pattern.specs.declared.item.ItemAt.{ItemAt}
-use Rattle.ignore_pattern.specs.CharacterClasses.{ClassAt, item_at, with_character, with_item, class_items}
+use Rattle.ignore_pattern.specs.Classes.{ClassAt, item_at, class_items}
 
--- items and a number of characters that were read, and then the rest of a class
+-- another byte before the others
+abbrev with_byte : Option ClassAt → Option ClassAt
+with_byte o = option_map (λ class. (class.0, suc class.1)) o
+
+-- and a byte that begins an item
+abbrev with_item : Item → Option ClassAt → Option ClassAt
+with_item item o = option_map (λ class. (item ∷ class.0, suc class.1)) o
+
+-- items and a number of bytes that were read, and then the rest of a class
 abbrev pub before : List Item → ℕ → Option ClassAt → Option ClassAt
 before items n None = None
 before items n (Some class) = Some (items ++ class.0, n + class.1)
 
-pub one_more : (n : ℕ) (o : Option ClassAt) → with_character (before [] n o) ≡ before [] (suc n) o
+pub one_more : (n : ℕ) (o : Option ClassAt) → with_byte (before [] n o) ≡ before [] (suc n) o
 one_more n None = refl
 one_more n (Some class) =
     let same : suc (n + class.1) ≡ suc n + class.1 = omega arith in
@@ -26,7 +35,7 @@ skip : (n : ℕ) (first : Bool) (last : Option ℕ) (cs : List ℕ) → n ≤ le
 unfolding class_items
 skip zero first last cs h = nothing_before (class_items zero first last cs)
 skip (suc n) first last [] h = absurd (omega arith)
-skip (suc n) first last (c ∷ cs) h = ap with_character (skip n first last cs (omega arith)) ∙ one_more n (class_items zero first last (drop n cs))
+skip (suc n) first last (c ∷ cs) h = ap with_byte (skip n first last cs (omega arith)) ∙ one_more n (class_items zero first last (drop n cs))
 
 regroup : (items : List Item) (item : Item) (n more : ℕ) (o : Option ClassAt) → before (items ++ item ∷ []) (n + (more + 1)) o ≡ before items n (with_item item (before [] more o))
 regroup items item n more None = refl

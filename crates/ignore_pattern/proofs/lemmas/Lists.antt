@@ -2,10 +2,6 @@
 use Rattle.std.proofs.Common.{◌≡◌, ◌-◌, ◌≤◌, List, [], ◌∷◌, length, get_or, take, drop, sym, ap, arith}
 use Rattle.std.proofs.lemmas.List.{take_all}
 
-pub one_cell : {A : Type 0} (xs : List A) (x : A) → 1 ≤ length xs → x ≡ get_or xs 0 x → xs ≡ x ∷ take (length xs - 1) (drop 1 xs)
-one_cell [] x h e = absurd (omega arith)
-one_cell (y ∷ ys) x h e = (λ i. sym e i ∷ sym (take_all (length (y ∷ ys) - 1) ys (omega arith)) i)
-
 pub head_cell : {A : Type 0} (xs : List A) (d : A) → 1 ≤ length xs → xs ≡ get_or xs 0 d ∷ take (length xs - 1) (drop 1 xs)
 head_cell [] d h = absurd (omega arith)
 head_cell (y ∷ ys) d h = ap (λ l. y ∷ l) (sym (take_all (length (y ∷ ys) - 1) ys (omega arith)))

@@ -10,8 +10,6 @@ use Rattle.bit_sets.specs.StateSets.{state_capacity}
 use Rattle.bit_sets.specs.declared.state_set.StateSet.{StateSet}
 use Rattle.byte_nfa.specs.EarlyMatches.{EndsAtEarlyMatches}
 use Rattle.byte_nfa.specs.Sharing.{Shares}
-use Rattle.lazy_dfa.specs.declared.classes.ByteClasses.{ByteClasses}
-use Rattle.lazy_dfa.specs.inner.Classes.{AreEquivalenceClasses}
 
 -- ends of an index k + half say that k is decided where they are reached
 abbrev pub half : NfaValue → ℕ
@@ -37,11 +35,9 @@ pub record RunsFor (source run : NfaValue) : Type 0 where
   pub shares : Shares source sharing
   pub early : EndsAtEarlyMatches sharing run
 
--- what is run for the source, and of that the classes of bytes, the states from which some bytes lead to an end, and the indexes
-pub record IsMadeOf (source automaton : NfaValue) (classes : ByteClasses) (leads : StateSet) (indexes : List ℕ) : Type 0 where
+-- what is run for the source, and of that the states from which some bytes lead to an end, and the indexes
+pub record IsMadeOf (source automaton : NfaValue) (leads : StateSet) (indexes : List ℕ) : Type 0 where
   pub runs : RunsFor source automaton
-  pub few : classes.count ≤ 256
-  pub equivalence : AreEquivalenceClasses automaton.states classes.class_of classes.representatives classes.count
   pub live : AreLive automaton leads
   pub room : size automaton ≤ state_capacity leads
   pub listed : ListsEnds automaton indexes

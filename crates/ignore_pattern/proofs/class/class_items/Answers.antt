@@ -1,6 +1,6 @@
 use Rattle.std.proofs.Common.{zero, true, None, sym, arith}
-use Rattle.ignore_pattern.specs.CharacterClasses.{class_items}
-use Rattle.ignore_pattern.proofs.lemmas.Lists.{one_cell}
+use Rattle.ignore_pattern.specs.Classes.{class_items}
+use Rattle.ignore_pattern.proofs.lemmas.Lists.{head_cell}
 use Rattle.ignore_pattern.proofs.lemmas.Classes.{starts, ends, closed, unreadable, goes_on}
 use Rattle.ignore_pattern.proofs.class.class_items.Goals as goal
 
@@ -11,19 +11,19 @@ pub returns-then-closes-clause-value : goal.returns-then-closes-clause-value
 returns-then-closes-clause-value c =
     let l = c.loop-rest in
     let t = class_items zero true None c.args.cs.now in
-    closed c.args.cs.now l.items.items l.first l.last l.rest.now t l.invariant _ _ (one_cell l.rest.now c.c-item.result c.in-len1-up.len_at_least c.c-item.is) (sym c.if-closes.ensures)
+    closed c.args.cs.now l.items.items l.first l.last l.rest.now t l.invariant _ _ (head_cell l.rest.now 0 c.in-len1-up.len_at_least) (sym c.if-closes.ensures)
 
 pub returns-in-None-clause-value : goal.returns-in-None-clause-value
 returns-in-None-clause-value c =
     let l = c.loop-rest in
     let t = class_items zero true None c.args.cs.now in
-    unreadable c.args.cs.now l.items.items l.first l.last l.rest.now t l.invariant _ _ (one_cell l.rest.now c.c-item.result c.in-len1-up.len_at_least c.c-item.is) (sym c.if-closes.ensures) c.in-None.ensures.value
+    unreadable c.args.cs.now l.items.items l.first l.last l.rest.now t l.invariant _ _ (head_cell l.rest.now 0 c.in-len1-up.len_at_least) (sym c.if-closes.ensures) c.in-None.ensures.value
 
 pub loop-rest-preserved : goal.loop-rest-preserved
 loop-rest-preserved c =
     let l = c.loop-rest in
     let t = class_items zero true None c.args.cs.now in
-    goes_on c.args.cs.now l.items.items l.first l.last l.rest.now t l.invariant _ _ (one_cell l.rest.now c.c-item.result c.in-len1-up.len_at_least c.c-item.is)
+    goes_on c.args.cs.now l.items.items l.first l.last l.rest.now t l.invariant _ _ (head_cell l.rest.now 0 c.in-len1-up.len_at_least)
     c.in-Some.found c.push.new.self.items c.split_at.result.1.now (sym c.if-closes.ensures) c.in-Some.ensures.value c.in-Some.ensures.within c.in_ok-push-in-Some.ensures.items c.split_at.ensures.back
 
 pub returns-clause-value : goal.returns-clause-value

@@ -1,5 +1,5 @@
 use Rattle.std.proofs.Common.{zero, true, None, length}
-use Rattle.ignore_pattern.specs.CharacterClasses.{class_items}
+use Rattle.ignore_pattern.specs.Classes.{class_items}
 use Rattle.ignore_pattern.proofs.lemmas.Classes.{Reads}
 use Rattle.ignore_pattern.proofs.class.class_items.Given as goal
 

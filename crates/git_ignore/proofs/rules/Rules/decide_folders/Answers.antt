@@ -1,6 +1,5 @@
 use Rattle.std.proofs.Common.{◌<◌, length, true≢false, sym, subst, ◌∙◌, arith}
-use Rattle.globset.specs.SetValue.{ScratchValue}
-use Rattle.git_ignore.specs.RulesValue.{FitsRules}
+use Rattle.git_ignore.specs.RulesValue.{FitsRules, ScratchValue}
 use Rattle.git_ignore.proofs.lemmas.Folders.{all_put, folder_put, none_put}
 use Rattle.git_ignore.proofs.rules.Rules.decide_folders.Goals as goal
 use Rattle.git_ignore.proofs.rules.Rules.decide_folders.Goals.{then-path-end-eq47+then-is_undecided, else-path-end-eq47, else-path-end-eq47-via-then-path-end-eq47+else-is_undecided, else-path-end-eq47-via-else-path-end-eq47}

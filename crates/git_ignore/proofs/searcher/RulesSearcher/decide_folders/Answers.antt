@@ -1,6 +1,5 @@
 use Rattle.std.proofs.Common.{◌-◌, ◌<◌, length, drop, take, true, true≢false, ap, sym, ◌∙◌, arith}
-use Rattle.git_ignore.specs.Rules.{decision}
-use Rattle.git_ignore.specs.RulesValue.{RulesValue}
+use Rattle.git_ignore.specs.RulesValue.{RulesValue, rules_decision}
 use Rattle.git_ignore.proofs.lemmas.Folders.{all_put, folder_put, none_put}
 use Rattle.git_ignore.proofs.searcher.RulesSearcher.decide_folders.Goals as goal
 use Rattle.git_ignore.proofs.searcher.RulesSearcher.decide_folders.Goals.{then-path-end-eq47+then-is_undecided, else-path-end-eq47, else-path-end-eq47-via-then-path-end-eq47+else-is_undecided, else-path-end-eq47-via-else-path-end-eq47}
@@ -15,7 +14,7 @@ loop-end-preserved c =
       | then-path-end-eq47+then-is_undecided w ↦ rw (w.self-is, w.decisions-is) record {
         kept = w.decide.ensures.kept ∙ l.invariant.kept;
         put = folder_put _ path start l.end c.args.decisions.now l.decisions w.decide.result _ l.auto.end within l.invariant.put w.if-path-end-eq47.true
-            (w.is_undecided.ensures.0 w.if-is_undecided.true) (w.decide.ensures.decision ∙ ap (λ (v : RulesValue). decision v.file (take (l.end - start) (drop start path)) true) l.invariant.kept);
+            (w.is_undecided.ensures.0 w.if-is_undecided.true) (w.decide.ensures.decision ∙ ap (λ (v : RulesValue). rules_decision v (take (l.end - start) (drop start path)) true) l.invariant.kept);
       }
       | else-path-end-eq47 w ↦ rw (w.self-is, w.decisions-is) record {
         kept = l.invariant.kept;

@@ -7,10 +7,10 @@ returns c =
     let m = c.args.automaton.now in
     let starts = ap length c.in_ok-with_capacity.ensures.items in
     let entries = ap length c.in_ok-with_capacity-3.ensures.items in
-    let w : ℕ = c.args.classes.now.count + 1 in
+    let w : ℕ = c.new-classes.result.count + 1 in
     let one = mul-le 1 w c.room_within-room.result.rows w (omega (arith, c.room_within-room.ensures.rows)) (omega arith) in
     record {
-      fits = c.requires.fits;
+      fits = c.requires;
       room = record {
         from = omega (arith, c.state_count-states.ensures, c.in_ok-new.ensures.room);
         next = omega (arith, c.state_count-states.ensures, c.in_ok-new-2.ensures.room);
@@ -21,10 +21,10 @@ returns c =
         lists = omega (arith, c.state_count-states.ensures, c.in_ok-with_capacity-2.ensures.capacity, c.room_within-room.ensures.listed);
         starts = omega (arith, c.in_ok-with_capacity.ensures.capacity, c.room_within-room.ensures.rows);
         entries = omega (arith, one, c.in_ok-with_capacity-3.ensures.capacity, c.saturating_mul-2.ensures);
-        width = omega (arith, c.requires.few);
+        width = omega (arith, c.new-classes.ensures.few);
       };
-      representatives = c.args.classes.now.representatives;
-      classes = c.requires.equivalence;
+      representatives = c.new-classes.result.representatives;
+      classes = c.new-classes.ensures.equivalence;
       few = omega (arith, starts);
       small = omega (arith, entries);
       lists = λ i lt. absurd (omega (arith, starts));

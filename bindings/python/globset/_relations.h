@@ -1,0 +1,119 @@
+/* Questions about all paths: a part of _extension.c, which includes it once. */
+
+/* Globs that are lent to one call. The caller of the call has a reference to each. */
+struct lents {
+    globset_lent *at;
+    size_t count;
+};
+
+/* The class GlobBase of a module. */
+static PyTypeObject *glob_type_in(PyObject *module) {
+    PyTypeObject **glob_type = PyModule_GetState(module);
+    if (glob_type && *glob_type) return *glob_type;
+    PyErr_SetString(PyExc_RuntimeError, "the module globset has ended");
+    return NULL;
+}
+
+/* Makes handles of a tuple of globs. There is room for one more, since no array may be null. */
+static int lend_globs(PyObject *module, PyObject *globs, struct lents *lents) {
+    PyTypeObject *glob_type = glob_type_in(module);
+    if (!glob_type) return -1;
+    lents->count = (size_t)PyTuple_Size(globs);
+    lents->at = malloc((lents->count + 1) * sizeof *lents->at);
+    if (!lents->at) {
+        PyErr_NoMemory();
+        return -1;
+    }
+    for (size_t i = 0; i < lents->count; i++) {
+        PyObject *glob = PyTuple_GetItem(globs, (Py_ssize_t)i);
+        if (!glob || !PyObject_TypeCheck(glob, glob_type)) {
+            if (glob) PyErr_SetString(PyExc_TypeError, "a question is about globs");
+            free(lents->at);
+            return -1;
+        }
+        lents->at[i].at = ((struct glob *)glob)->glob.at;
+    }
+    return 0;
+}
+
+/* What the answer of an index tells: a path, the indexes of globs, or None where the limit was reached. */
+static PyObject *told(globset_owned *answers, size_t index) {
+    static const size_t none[1] = {0};
+    globset_bytes path = {(const uint8_t *)none, 0};
+    globset_indexes indexes = {none, 0};
+    globset_status status = globset_raw_answers_at(answers, index, &path, &indexes);
+    if (status == GLOBSET_LIMIT_REACHED) return Py_NewRef(Py_None);
+    if (status == GLOBSET_YES) return PyBytes_FromStringAndSize((const char *)path.at, (Py_ssize_t)path.count);
+    if (status != GLOBSET_NO) return raise_status(status);
+    PyObject *list = list_of(indexes.at, indexes.count);
+    PyObject *tuple = list ? PyList_AsTuple(list) : NULL;
+    Py_XDECREF(list);
+    return tuple;
+}
+
+/* Ends a call that made one answer. */
+static PyObject *told_once(globset_status status, globset_owned *answers) {
+    if (status != GLOBSET_DONE) return raise_status(status);
+    PyObject *result = told(answers, 0);
+    globset_raw_free(*answers);
+    return result;
+}
+
+/* Releases the lock while it searches, as all questions here do. The arguments have references to the globs. */
+static PyObject *covering(PyObject *module, PyObject *arguments) {
+    PyTypeObject *glob_type = glob_type_in(module);
+    PyObject *glob, *by;
+    unsigned int domain;
+    Py_ssize_t limit;
+    if (!glob_type) return NULL;
+    if (!PyArg_ParseTuple(arguments, "O!O!In:covering", glob_type, &glob, &PyTuple_Type, &by, &domain, &limit)) return NULL;
+    struct lents lents;
+    if (lend_globs(module, by, &lents) < 0) return NULL;
+    globset_lent lent = {((struct glob *)glob)->glob.at};
+    globset_owned answers;
+    globset_status status;
+    Py_BEGIN_ALLOW_THREADS
+    status = globset_raw_covering(&lent, lents.at, lents.count, domain, (size_t)limit, &answers);
+    Py_END_ALLOW_THREADS
+    free(lents.at);
+    return told_once(status, &answers);
+}
+
+static PyObject *overlap(PyObject *module, PyObject *arguments) {
+    PyTypeObject *glob_type = glob_type_in(module);
+    PyObject *a, *b;
+    unsigned int domain;
+    Py_ssize_t limit;
+    if (!glob_type) return NULL;
+    if (!PyArg_ParseTuple(arguments, "O!O!In:overlap", glob_type, &a, glob_type, &b, &domain, &limit)) return NULL;
+    globset_lent lent_a = {((struct glob *)a)->glob.at}, lent_b = {((struct glob *)b)->glob.at};
+    globset_owned answers;
+    globset_status status;
+    Py_BEGIN_ALLOW_THREADS
+    status = globset_raw_overlap(&lent_a, &lent_b, domain, (size_t)limit, &answers);
+    Py_END_ALLOW_THREADS
+    return told_once(status, &answers);
+}
+
+static PyObject *unreachable(PyObject *module, PyObject *arguments) {
+    PyObject *globs;
+    unsigned int decides, domain;
+    Py_ssize_t limit;
+    if (!PyArg_ParseTuple(arguments, "O!IIn:unreachable", &PyTuple_Type, &globs, &decides, &domain, &limit)) return NULL;
+    struct lents lents;
+    if (lend_globs(module, globs, &lents) < 0) return NULL;
+    globset_owned answers;
+    globset_status status;
+    Py_BEGIN_ALLOW_THREADS
+    status = globset_raw_unreachable(lents.at, lents.count, decides, domain, (size_t)limit, &answers);
+    Py_END_ALLOW_THREADS
+    free(lents.at);
+    if (status != GLOBSET_DONE) return raise_status(status);
+    PyObject *list = PyList_New((Py_ssize_t)lents.count);
+    for (size_t i = 0; list && i < lents.count; i++) {
+        PyObject *answer = told(&answers, i);
+        if (!answer || PyList_SetItem(list, (Py_ssize_t)i, answer) < 0) Py_CLEAR(list);
+    }
+    globset_raw_free(answers);
+    return list;
+}

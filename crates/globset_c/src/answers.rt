@@ -1,0 +1,147 @@
+//! Answers to questions about globs.
+
+ghost use Rattle.std.specs.Prelude.{◌≡◌, ◌≢◌, ◌≤◌, ◌<◌, Some, None, [], ◌∷◌, IfSome, IsSome, MatchOption, length, map, slice_get};
+ghost use Rattle.globset_c.specs.Kinds.{IfAnswers, IsAnswers};
+ghost use Rattle.globset_c.specs.Relations.{told, told_by, told_coverage, told_intersection, told_reachability, a_path, no_path, limit_reached};
+ghost use Rattle.globset_c.specs.Statuses.{IsOneOf};
+
+use crate::indexes::Indexes;
+use crate::object::Object;
+use crate::owned::Owned;
+use crate::status::{BAD_INDEX, LIMIT_REACHED, NO, Status, WRONG_KIND, YES};
+use glob_relations::{Coverage, Intersection, Reachability};
+
+/// The answer to a question, or the answers to a question about each glob of a list.
+#[derive(Drop)]
+pub enum Answers {
+    Coverage(Coverage),
+    Intersection(Intersection),
+    Reachabilities(Vec<Reachability>),
+}
+
+/// An answer that is read.
+#[derive(Clone, Copy)]
+pub enum Answer<'a> {
+    /// There is such a path.
+    Path(&'a [u8]),
+    /// There is no such path, and the answer names the globs at these indexes.
+    NoPath(&'a [usize]),
+    /// The search has more rows than its limit.
+    Unknown,
+}
+
+/// Bytes that answers lend.
+#[repr(C)]
+pub struct Bytes<'a> {
+    pub items: &'a [u8],
+}
+
+/// Lends what the answer of an index tells: a path, or the indexes of globs where there is no such path.
+#[unsafe(no_mangle)]
+pub extern "C" fn globset_raw_answers_at<'a>(
+    answers: &'a mut Owned,
+    index: usize,
+    path: &mut Bytes<'a>,
+    indexes: &mut Indexes<'a>,
+) -> Status
+    requires owned { IsSome answers.old.object }
+    ensures yes { result ≡ YES → IfAnswers answers.old.object (λ all.
+        slice_get (told all) index ≡ Some (a_path path.new.items.now)) }
+    ensures no { result ≡ NO → IfAnswers answers.old.object (λ all.
+        slice_get (told all) index ≡ Some (no_path indexes.new.items.now)) }
+    ensures limit { result ≡ LIMIT_REACHED
+        → IfAnswers answers.old.object (λ all. slice_get (told all) index ≡ Some limit_reached) }
+    ensures bad_index { result ≡ BAD_INDEX
+        → IfAnswers answers.old.object (λ all. length (told all) ≤ index) }
+    ensures empty_without_path { result ≢ YES → path.new.items.now ≡ [] }
+    ensures empty_without_indexes { result ≢ NO → indexes.new.items.now ≡ [] }
+    ensures right_kind { IsAnswers answers.old.object → result ≢ WRONG_KIND }
+    ensures other_kind { ¬ (IsAnswers answers.old.object) → result ≡ WRONG_KIND }
+    ensures statuses { IsOneOf (NO ∷ YES ∷ WRONG_KIND ∷ LIMIT_REACHED ∷ BAD_INDEX ∷ []) result }
+{
+    path.items = &[];
+    indexes.items = &[];
+    let Some(all) = answers_in(answers.as_mut()) else {
+        return WRONG_KIND;
+    };
+    match answer_at(all, index) {
+        Some(Answer::Path(bytes)) => {
+            path.items = bytes;
+            YES
+        }
+        Some(Answer::NoPath(numbers)) => {
+            indexes.items = numbers;
+            NO
+        }
+        Some(Answer::Unknown) => LIMIT_REACHED,
+        None => BAD_INDEX,
+    }
+}
+
+fn answers_in(object: &mut Object) -> Option<&Answers>
+    ensures some { IfSome result (λ all. IfAnswers (Some object.old) (λ asked. all.now ≡ asked)) }
+    ensures none { result ≡ None → ¬ (IsAnswers (Some object.old)) }
+{
+    match object {
+        Object::Answers(answers) => Some(answers),
+        _ => None,
+    }
+}
+
+/// Returns the answer of an index, or `None` if there is none.
+fn answer_at(answers: &Answers, index: usize) -> Option<Answer>
+    ensures { MatchOption result (length (told answers.now) ≤ index)
+        (λ answer. slice_get (told answers.now) index ≡ Some (told_by answer)) }
+{
+    match answers {
+        Answers::Coverage(coverage) => only(index, read_coverage(coverage)),
+        Answers::Intersection(intersection) => only(index, read_intersection(intersection)),
+        Answers::Reachabilities(all) => reachability_at(all, index),
+    }
+}
+
+/// Returns the answer if the index is that of the first.
+fn only(index: usize, answer: Answer) -> Option<Answer>
+    ensures { MatchOption result (1 ≤ index)
+        (λ given. slice_get (told_by answer.entry ∷ []) index ≡ Some (told_by given)) }
+{
+    if index == 0 { Some(answer) } else { None }
+}
+
+#[tactic(auto, using(crate::proofs::Told::told_at, crate::proofs::Told::none_told_past))]
+fn reachability_at(all: &[Reachability], index: usize) -> Option<Answer>
+    ensures { MatchOption result (length (map told_reachability all.now) ≤ index)
+        (λ answer. slice_get (map told_reachability all.now) index ≡ Some (told_by answer)) }
+{
+    Some(read_reachability(all.get(index)?))
+}
+
+fn read_coverage(coverage: &Coverage) -> Answer
+    ensures { told_by result ≡ told_coverage coverage.now }
+{
+    match coverage {
+        Coverage::Covered => Answer::NoPath(&[]),
+        Coverage::Not(path) => Answer::Path(path),
+        Coverage::Unknown => Answer::Unknown,
+    }
+}
+
+fn read_intersection(intersection: &Intersection) -> Answer
+    ensures { told_by result ≡ told_intersection intersection.now }
+{
+    match intersection {
+        Intersection::Disjoint => Answer::NoPath(&[]),
+        Intersection::Both(path) => Answer::Path(path),
+        Intersection::Unknown => Answer::Unknown,
+    }
+}
+
+fn read_reachability(reachability: &Reachability) -> Answer
+    ensures { told_by result ≡ told_reachability reachability.now }
+{
+    match reachability {
+        Reachability::Decides(path) => Answer::Path(path),
+        Reachability::Never(indexes) => Answer::NoPath(indexes),
+        Reachability::Unknown => Answer::Unknown,
+    }
+}

@@ -1,0 +1,10 @@
+use Rattle.std.proofs.Common.{sym, subst}
+use Rattle.ignore_pattern.specs.inner.States.{BuildsPattern}
+use Rattle.ignore_pattern.proofs.lemmas.Automata.{one_more}
+use Rattle.ignore_pattern.proofs.automaton.push_pattern.Goals as goal
+
+pub returns-clause-patterns : goal.returns-clause-patterns
+returns-clause-patterns c = λ ps count before.
+    one_more c.args.ignore_case c.args.pattern.now c.args.builder.now c.push_states.new.builder c.add_start.new.self c.in_ok-start.start ps c.push_states.ensures.grows
+    (subst (λ j. BuildsPattern c.args.ignore_case c.args.pattern.now j c.args.builder.now.states c.push_states.new.builder.states c.in_ok-start.start) (sym count) c.in_ok-start.ensures.builds)
+    c.in_ok-add_start.ensures.states c.in_ok-add_start.ensures.starts before
