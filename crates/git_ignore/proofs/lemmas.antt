@@ -1,5 +1,4 @@
 pub mod Entries
-pub mod Folders
 pub mod Lines
 pub mod Stacks
 pub mod TwoRules

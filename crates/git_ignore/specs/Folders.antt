@@ -1,10 +1,9 @@
--- Ignore files of nested folders, and their decision together. Paths begin in a top folder.
-use Rattle.std.specs.Prelude.{ℕ, Bool, List, length, take, drop, if◌then◌else◌}
+-- Ignore files of nested folders, and the rule of theirs that decides. Paths begin in a top folder.
+use Rattle.std.specs.Prelude.{ℕ, suc, Bool, List, [], ◌∷◌, length, take, drop, Option, None, if◌then◌else◌}
 use Rattle.std.specs.Str.{bytes_eq}
-use Rattle.git_ignore.specs.Rules.{decision}
-use Rattle.git_ignore.specs.TwoRules.{last_decision}
-use Rattle.git_ignore.specs.declared.decision.Decision.{Decision}
-use Rattle.git_ignore.specs.declared.decision.Decision.TheVariants.{Undecided}
+use Rattle.git_ignore.specs.Rules.{deciding_rule}
+use Rattle.git_ignore.specs.TwoRules.{or_else}
+use Rattle.git_ignore.specs.declared.decision.DecidingRule.{DecidingRule}
 
 -- An ignore file: its folder, its bytes, and whether its rules ignore case. The folder is empty for the top folder, and otherwise a
 -- path that ends with `/`.
@@ -17,11 +16,16 @@ pub record IgnoreFile : Type 0 where
 abbrev pub is_in : List ℕ → List ℕ → Bool
 is_in folder path = bytes_eq (take (length folder) path) folder
 
--- the decision of a file, for a path below its folder
-abbrev pub file_decision : List ℕ → Bool → IgnoreFile → Decision
-file_decision path is_folder file = if is_in file.folder path then decision file.ignore_case file.bytes (drop (length file.folder) path) is_folder else Undecided
+-- the rule of a file of this index, for a path below its folder
+abbrev pub file_rule : ℕ → List ℕ → Bool → IgnoreFile → Option DecidingRule
+file_rule index path is_folder file = if is_in file.folder path then deciding_rule file.ignore_case file.bytes index (drop (length file.folder) path) is_folder else None
 
--- The decision of files about a path alone, the top file first: the decision of the last file that has any. So the rules of a
+-- the rule of the last of these files that has any, where the first has this index
+abbrev pub rule_from : ℕ → List IgnoreFile → List ℕ → Bool → Option DecidingRule
+rule_from index [] path is_folder = None
+rule_from index (file ∷ files) path is_folder = or_else (rule_from (suc index) files path is_folder) (file_rule index path is_folder file)
+
+-- The rule of files that decides about a path alone, the top file first: that of the last file that has any. So the rules of a
 -- folder take precedence over the rules above it.
-abbrev pub files_decision : List IgnoreFile → List ℕ → Bool → Decision
-files_decision files path is_folder = last_decision (file_decision path is_folder) files
+abbrev pub files_rule : List IgnoreFile → List ℕ → Bool → Option DecidingRule
+files_rule files = rule_from 0 files

@@ -1,7 +1,6 @@
 pub mod Rules
 pub mod TwoRules
 pub mod Folders
-pub mod FolderDecisions
 pub mod RulesValue
 pub mod StackValue
 pub mod inner

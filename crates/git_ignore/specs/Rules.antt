@@ -1,10 +1,11 @@
--- The rules of an ignore file, and their decision about a path below the file's folder. Git compares without regard to case where
--- its setting `core.ignoreCase` is set: `ignore_case` is that setting.
+-- The rules of an ignore file, and the rule of a file that decides about a path below the file's folder. Git compares without regard
+-- to case where its setting `core.ignoreCase` is set: `ignore_case` is that setting.
 use Rattle.std.specs.Prelude.{ℕ, suc, Bool, not, ◌&&◌, ◌||◌, List, [], ◌∷◌, Option, Some, None, if◌then◌else◌}
 use Rattle.ignore_pattern.specs.Lines.{file_lines}
 use Rattle.ignore_pattern.specs.Patterns.{Pattern, pattern_of_line, pattern_matches}
 use Rattle.git_ignore.specs.declared.decision.Decision.{Decision}
 use Rattle.git_ignore.specs.declared.decision.Decision.TheVariants.{Ignored, Kept, Undecided}
+use Rattle.git_ignore.specs.declared.decision.DecidingRule.{DecidingRule}
 
 -- a line with a pattern: the number of the line, counted from 1, and the pattern
 pub record Rule : Type 0 where
@@ -31,20 +32,16 @@ last_rule ignore_case path is_folder [] = None
 last_rule ignore_case path is_folder (rule ∷ rules) = elim (last_rule ignore_case path is_folder rules)
     [ Some last ↦ Some last | None ↦ if applies ignore_case path is_folder rule then Some rule else None ]
 
--- the decision of the last rule that applies
-abbrev pub said : Option Rule → Decision
-said None = Undecided
-said (Some rule) = if rule.pattern.negated then Kept else Ignored
+-- what is told of a rule in the file of this index
+abbrev pub told : ℕ → Option Rule → Option DecidingRule
+told file None = None
+told file (Some rule) = Some (record { file = file; line = rule.line; is_negated = rule.pattern.negated })
 
--- The decision of an ignore file: the decision of the last rule that applies.
-unfoldable pub decision : Bool → List ℕ → List ℕ → Bool → Decision
-decision ignore_case file path is_folder = said (last_rule ignore_case path is_folder (rules_of file))
+-- The rule of an ignore file, of this index among several, that decides about a path: the last that applies.
+unfoldable pub deciding_rule : Bool → List ℕ → ℕ → List ℕ → Bool → Option DecidingRule
+deciding_rule ignore_case file index path is_folder = told index (last_rule ignore_case path is_folder (rules_of file))
 
--- the number of the line of a rule
-abbrev pub line_of : Option Rule → Option ℕ
-line_of None = None
-line_of (Some rule) = Some rule.line
-
--- The number of the line that decides: the line of the last rule that applies.
-unfoldable pub deciding_line : Bool → List ℕ → List ℕ → Bool → Option ℕ
-deciding_line ignore_case file path is_folder = line_of (last_rule ignore_case path is_folder (rules_of file))
+-- the decision of a rule that decides
+abbrev pub decision_of : Option DecidingRule → Decision
+decision_of None = Undecided
+decision_of (Some rule) = if rule.is_negated then Kept else Ignored

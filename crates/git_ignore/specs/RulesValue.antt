@@ -1,7 +1,7 @@
 -- Rules, and the memory to decide with, as contracts see them.
-use Rattle.std.specs.Prelude.{ℕ, ◌≤◌, Bool, List}
-use Rattle.git_ignore.specs.Rules.{decision}
-use Rattle.git_ignore.specs.declared.decision.Decision.{Decision}
+use Rattle.std.specs.Prelude.{ℕ, ◌≤◌, Bool, List, Option}
+use Rattle.git_ignore.specs.Rules.{deciding_rule}
+use Rattle.git_ignore.specs.declared.decision.DecidingRule.{DecidingRule}
 
 -- Rules are seen as the bytes of their file, whether case is ignored, and two numbers, which say how much memory deciding takes:
 -- of the states of their automaton, and of the rules.
@@ -11,9 +11,9 @@ pub record RulesValue : Type 0 where
   pub states : ℕ
   pub rules : ℕ
 
--- the decision of rules about a path
-abbrev pub rules_decision : RulesValue → List ℕ → Bool → Decision
-rules_decision rules = decision rules.ignore_case rules.file
+-- the rule of rules that decides about a path, if they are those of one file alone
+abbrev pub rules_rule : RulesValue → List ℕ → Bool → Option DecidingRule
+rules_rule rules = deciding_rule rules.ignore_case rules.file 0
 
 -- A scratch is seen as two numbers: of the states that an automaton may have, and of the rules that there may be.
 pub record ScratchValue : Type 0 where

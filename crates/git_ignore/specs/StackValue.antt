@@ -1,6 +1,9 @@
 -- The folder that a walk is in, and those above it with their ignore files, as contracts see them.
-use Rattle.std.specs.Prelude.{ℕ, Bool, List, [], ◌∷◌, ◌++◌, map}
-use Rattle.git_ignore.specs.Folders.{IgnoreFile}
+use Rattle.std.specs.Prelude.{ℕ, Bool, List, [], ◌∷◌, ◌++◌, map, Option}
+use Rattle.git_ignore.specs.Folders.{IgnoreFile, files_rule}
+use Rattle.git_ignore.specs.TwoRules.{deciding}
+use Rattle.git_ignore.specs.declared.decision.DecideBy.{DecideBy}
+use Rattle.git_ignore.specs.declared.decision.DecidingRule.{DecidingRule}
 
 -- a folder of a walk: its path, which is empty or ends with `/`, and its ignore files, in the order of their additions
 pub record OpenFolder : Type 0 where
@@ -21,6 +24,10 @@ files_in ignore_case (f ∷ fs) = files_in ignore_case fs ++ map (λ bytes. reco
 -- the ignore files of the current folder and of the folders above it, from the top down
 abbrev pub stack_files : StackValue → List IgnoreFile
 stack_files s = files_in s.ignore_case (s.here ∷ s.above)
+
+-- the rule that decides about a path below the current folder
+abbrev pub stack_rule : StackValue → DecideBy → List ℕ → Bool → Option DecidingRule
+stack_rule s by path is_folder = deciding by (files_rule (stack_files s)) (s.here.path ++ path) is_folder
 
 -- the walk in the top folder, without files
 abbrev pub at_top : Bool → StackValue

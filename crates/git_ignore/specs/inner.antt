@@ -1,4 +1,3 @@
 pub mod Entries
-pub mod FolderParts
 pub mod Stacks
 pub mod StackParts

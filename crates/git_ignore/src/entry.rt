@@ -2,9 +2,9 @@
 
 ghost use Rattle.std.specs.Prelude.{◌≡◌, None, Some, length, slice_get};
 ghost use Rattle.bit_sets.specs.Indexes.{has_index};
-ghost use Rattle.git_ignore.specs.inner.Entries.{chosen, decision_of, entry_of, is_for, last_found, line_of_entry};
+ghost use Rattle.git_ignore.specs.inner.Entries.{chosen, entry_of, is_for, last_found, told_of};
 
-use crate::decision::Decision;
+use crate::decision::DecidingRule;
 use bit_sets::IndexSet;
 use ignore_pattern::IgnorePattern;
 
@@ -35,35 +35,18 @@ impl RuleEntry {
     {
         is_folder || !self.is_folders_only
     }
-
-    /// Returns the decision about a path whose last applicable rule this is.
-    pub fn decision(self) -> Decision
-        ensures { result ≡ decision_of (Some self) }
-    {
-        if self.is_negated {
-            Decision::Kept
-        } else {
-            Decision::Ignored
-        }
-    }
 }
 
-/// Returns the decision of the last entry that applies to a path, if there is any.
-pub fn decision_by(last: Option<RuleEntry>) -> Decision
-    ensures { result ≡ decision_of last }
+/// Returns what is told of an entry of the file with this index.
+pub fn told_of(file: usize, entry: Option<RuleEntry>) -> Option<DecidingRule>
+    ensures { result ≡ told_of file entry }
 {
-    match last {
-        Some(entry) => entry.decision(),
-        None => Decision::Undecided,
-    }
-}
-
-/// Returns the number of the line of an entry, if there is any.
-pub fn line_by(last: Option<RuleEntry>) -> Option<usize>
-    ensures { result ≡ line_of_entry last }
-{
-    match last {
-        Some(entry) => Some(entry.line),
+    match entry {
+        Some(entry) => Some(DecidingRule {
+            file,
+            line: entry.line,
+            is_negated: entry.is_negated,
+        }),
         None => None,
     }
 }

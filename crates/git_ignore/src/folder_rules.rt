@@ -1,11 +1,11 @@
 //! The rules of an ignore file among several.
 
 ghost use Rattle.std.specs.Prelude.{◌≡◌, IfOk};
-ghost use Rattle.git_ignore.specs.Folders.{file_decision, files_decision};
+ghost use Rattle.git_ignore.specs.Folders.{file_rule, files_rule};
 ghost use Rattle.git_ignore.specs.RulesValue.{FitsAsBefore, FitsRules};
 ghost use Rattle.git_ignore.specs.inner.Stacks.{FitAll, file_of, files_of};
 
-use crate::decision::Decision;
+use crate::decision::DecidingRule;
 use crate::rules::Rules;
 use crate::scratch::IgnoreScratch;
 use crate::two_rules::DecidesAlone;
@@ -42,50 +42,66 @@ impl FolderRules {
         Ok(FolderRules { folder, rules })
     }
 
-    /// Returns the file's decision about a path, which begins in the top folder.
-    fn decide(&self, path: &[u8], is_folder: bool, scratch: &mut IgnoreScratch) -> Decision
+    /// Returns the numbers of the lines that git cannot read.
+    pub fn unread_lines(&self) -> &[usize] {
+        self.rules.unread_lines()
+    }
+
+    /// Returns the rule of the file, which has this index, that decides about a path, which begins in the top folder.
+    fn deciding_rule(
+        &self,
+        index: usize,
+        path: &[u8],
+        is_folder: bool,
+        scratch: &mut IgnoreScratch,
+    ) -> Option<DecidingRule>
         requires { FitsRules scratch.old self.now.rules }
-        ensures decision { result ≡ file_decision path.now is_folder (file_of self.now) }
+        ensures rule { result ≡ file_rule index path.now is_folder (file_of self.now) }
         ensures scratch { scratch.new ≡ scratch.old }
     {
         match path.strip_prefix(self.folder.as_slice()) {
-            Some(below) => self.rules.decide(below, is_folder, scratch),
-            None => Decision::Undecided,
+            Some(below) => self.rules.rule_in(index, below, is_folder, scratch),
+            None => None,
         }
     }
 }
 
-/// Returns the files' decision about a path alone, which begins in the top folder; later files take precedence.
-fn decide_alone(
+/// Returns the rule of the files that decides about a path alone, which begins in the top folder; later files take precedence.
+fn rule_alone(
     files: &[FolderRules],
     path: &[u8],
     is_folder: bool,
     scratch: &mut IgnoreScratch,
-) -> Decision
+) -> Option<DecidingRule>
     requires { FitAll scratch.old files.now }
-    ensures decision { result ≡ files_decision (files_of files.now) path.now is_folder }
+    ensures rule { result ≡ files_rule (files_of files.now) path.now is_folder }
     ensures scratch { scratch.new ≡ scratch.old }
 {
     let mut count = files.len();
     while count > 0 {
         count -= 1;
-        let decision = files[count].decide(path, is_folder, scratch);
-        if !decision.is_undecided() {
-            return decision;
+        let rule = files[count].deciding_rule(count, path, is_folder, scratch);
+        if rule.is_some() {
+            return rule;
         }
     }
-    Decision::Undecided
+    None
 }
 
 impl DecidesAlone for Vec<FolderRules> {
-    ghost use Rattle.git_ignore.specs.Folders.{files_decision};
+    ghost use Rattle.git_ignore.specs.Folders.{files_rule};
     ghost use Rattle.git_ignore.specs.inner.Stacks.{FitAll, files_of};
 
     ghost fits = { λ scratch files. FitAll scratch files.items };
 
-    ghost alone = { λ files. files_decision (files_of files.items) };
+    ghost alone = { λ files. files_rule (files_of files.items) };
 
-    fn decide_alone(&self, path: &[u8], is_folder: bool, scratch: &mut IgnoreScratch) -> Decision {
-        decide_alone(self, path, is_folder, scratch)
+    fn rule_alone(
+        &self,
+        path: &[u8],
+        is_folder: bool,
+        scratch: &mut IgnoreScratch,
+    ) -> Option<DecidingRule> {
+        rule_alone(self, path, is_folder, scratch)
     }
 }

@@ -3,25 +3,19 @@
 //! [`Rules`] are the rules of a file, which decide about paths below its folder:
 //!
 //! ```rust
-//! use git_ignore::{Decision, Rules};
+//! use git_ignore::{DecideBy, Decision, DecidingRule, Rules};
 //!
 //! let rules = Rules::new(alloc, b"*.o\n\n# but not\n!a.o\nout/\n[c\n\xff\n")?;
 //! assert_eq!(rt; rules.decide_once(b"src/b.o", false)?, Decision::Ignored);
-//! assert_eq!(rt; rules.deciding_line_once(b"src/b.o", false)?, Some(1));
+//! let first = DecidingRule { file: 0, line: 1, is_negated: false };
+//! assert_eq!(rt; rules.deciding_rule_once(b"src/b.o", false, DecideBy::PathAlone)?, Some(first));
 //! assert_eq!(rt; rules.decide_once(b"a.o", false)?, Decision::Kept);
 //! assert_eq!(rt; rules.decide_once(b"out", false)?, Decision::Undecided);
 //! assert_eq!(rt; rules.decide_once(b"out", true)?, Decision::Ignored);
 //!
 //! // A class that is not closed. A line need not be UTF-8.
 //! assert_eq!(rt; rules.unread_lines(), [6].as_slice());
-//! assert_eq!(rt; rules.deciding_line_once(b"\xff", false)?, Some(7));
-//!
-//! // Of the folders above `a/b/c`, which end before the second and the fourth byte, `a` is kept, and `a/b` is ignored.
-//! let rules = Rules::new(alloc, b"*\n!/a/\n")?;
-//! let mut decisions = [Decision::Undecided; 5];
-//! rules.decide_folders(b"a/b/c", 0, &mut decisions)?;
-//! assert_eq!(rt; decisions[1], Decision::Kept);
-//! assert_eq!(rt; decisions[3], Decision::Ignored);
+//! assert_eq!(rt; rules.decide_once(b"\xff", false)?, Decision::Ignored);
 //! ```
 //!
 //! A [`RulesSearcher`] has rules and all the memory of a thread, for many paths. Its calls cannot fail:
@@ -31,7 +25,8 @@
 //!
 //! let mut searcher = RulesSearcher::new(alloc, &Rules::new(alloc, b"*.o\n!a.o\n")?)?;
 //! for (path, line) in [(b"b.o", 1), (b"a.o", 2), (b"b.o", 1)] {
-//!     assert_eq!(rt; searcher.deciding_line(path, false), Some(line));
+//!     let rule = searcher.deciding_rule(path, false);
+//!     assert!(rt; matches!(rule, Some(rule) if rule.line == line));
 //! }
 //! assert_eq!(rt; searcher.decide(b"a.c", false), Decision::Undecided);
 //! ```
@@ -86,7 +81,7 @@ mod tests;
 mod two_rules;
 
 pub use builder::RulesBuilder;
-pub use decision::Decision;
+pub use decision::{DecideBy, DecidingRule, Decision};
 pub use rules::Rules;
 pub use scratch::IgnoreScratch;
 pub use searcher::RulesSearcher;

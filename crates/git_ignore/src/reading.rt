@@ -19,7 +19,7 @@ const BYTE_ORDER_MARK: &[u8] = b"\xef\xbb\xbf";
 pub struct FileRules {
     pub patterns: Vec<IgnorePattern>,
     pub entries: Vec<RuleEntry>,
-    /// The numbers of lines without a pattern that are neither blank nor a comment.
+    /// The numbers of lines with a pattern that cannot be read.
     pub unread: Vec<usize>,
 }
 
@@ -78,7 +78,7 @@ impl FileRules {
         Ok(())
     }
 
-    /// Keeps the number of a line without a pattern, unless it is blank or a comment.
+    /// Keeps the number of a line whose pattern cannot be read, if there is one to read.
     fn push_unread(&mut self, number: usize, line: &[u8]) -> Result<(), AllocError>
         ensures patterns { self.new.patterns.items ≡ self.old.patterns.items }
         ensures entries { self.new.entries.items ≡ self.old.entries.items }
@@ -101,8 +101,13 @@ pub fn after_mark(bytes: &[u8]) -> &[u8]
     }
 }
 
-/// Returns whether a line is blank or a comment.
+/// Returns whether a line has no pattern to read: it is a comment, or there are at most a `!` and slashes before its NUL.
 fn is_plain_line(line: &[u8]) -> bool {
     let text = line.strip_suffix(b"\r").unwrap_or(line);
-    text.starts_with(b"#") || text.iter().all(|byte| *byte == b' ')
+    let end = memchr(b'\0', text).unwrap_or(text.len());
+    let text = text.get(..end).unwrap_or(text);
+    let rest = text.strip_prefix(b"!").unwrap_or(text);
+    let rest = rest.strip_prefix(b"/").unwrap_or(rest);
+    let rest = rest.strip_prefix(b"/").unwrap_or(rest);
+    text.starts_with(b"#") || rest.iter().all(|byte| *byte == b' ')
 }

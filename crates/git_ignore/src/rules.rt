@@ -1,19 +1,18 @@
 //! The rules of an ignore file.
 
 ghost use Rattle.std.specs.Arc.{arc_value};
-ghost use Rattle.std.specs.Prelude.{◌≡◌, true, false, IfOk, OnOk, OnErr};
-ghost use Rattle.git_ignore.specs.FolderDecisions.{ArePut};
-ghost use Rattle.git_ignore.specs.Rules.{deciding_line, last_rule, rules_of};
-ghost use Rattle.git_ignore.specs.RulesValue.{FitsRules, rules_decision};
-ghost use Rattle.git_ignore.specs.TwoRules.{decision_below, nearest_decision};
-ghost use Rattle.git_ignore.specs.inner.Entries.{entry_of_rule, rules_value};
+ghost use Rattle.std.specs.Prelude.{◌≡◌, false, IfOk};
+ghost use Rattle.git_ignore.specs.Rules.{deciding_rule, decision_of};
+ghost use Rattle.git_ignore.specs.RulesValue.{FitsRules, rules_rule};
+ghost use Rattle.git_ignore.specs.TwoRules.{deciding};
+ghost use Rattle.git_ignore.specs.declared.decision.DecideBy.TheVariants.{Git, Nearest};
+ghost use Rattle.git_ignore.specs.inner.Entries.{rules_value};
 
-use crate::decision::Decision;
-use crate::entry::{RuleEntry, decision_by, line_by};
+use crate::decision::{DecideBy, DecidingRule, Decision, decision_of};
 use crate::reading::{FileRules, after_mark};
 use crate::scratch::IgnoreScratch;
 use crate::stored::StoredRules;
-use crate::two_rules::{self, DecidesAlone};
+use crate::two_rules::{DecidesAlone, deciding};
 use std::alloc::{AllocError, Global};
 use std::marker::Model;
 use std::sync::Arc;
@@ -81,14 +80,13 @@ impl Rules {
     /// afterwards.
     pub fn decide(&self, path: &[u8], is_folder: bool, scratch: &mut IgnoreScratch) -> Decision
         requires { FitsRules scratch.old self.now }
-        ensures decision { result ≡ rules_decision self.now path.now is_folder }
+        ensures decision { result ≡ decision_of (rules_rule self.now path.now is_folder) }
         ensures scratch { scratch.new ≡ scratch.old }
     {
-        decision_by(self.last_entry(path, is_folder, scratch))
+        decision_of(self.rule_in(0, path, is_folder, scratch))
     }
 
-    /// Returns the decision of the file about a path by git's rule: everything below an ignored folder is ignored, and no rule keeps
-    /// it. That a folder is kept says nothing about its contents.
+    /// Returns the decision of the file about a path by git's rule ([`DecideBy::Git`]).
     ///
     /// It takes a pass over the path of each folder above the path, from the top down to the first that is ignored, and then a
     /// pass over the path. So the time grows with the square of their number.
@@ -99,15 +97,14 @@ impl Rules {
         scratch: &mut IgnoreScratch,
     ) -> Decision
         requires { FitsRules scratch.old self.now }
-        ensures decision { result ≡ decision_below (rules_decision self.now) path.now is_folder }
+        ensures decision { result
+            ≡ decision_of (deciding Git (rules_rule self.now) path.now is_folder) }
         ensures scratch { scratch.new ≡ scratch.old }
     {
-        two_rules::decide_below(self, path, 0, is_folder, scratch)
+        decision_of(self.deciding_rule(path, is_folder, DecideBy::Git, scratch))
     }
 
-    /// Returns the nearest decision of the file: the decision about a path, or if there is none, about the nearest folder above it
-    /// that has one. So a rule can keep a path below an ignored folder, as the lists of files to include of packaging tools mean
-    /// it; git ignores that path.
+    /// Returns the nearest decision of the file about a path ([`DecideBy::Nearest`]).
     ///
     /// It takes a pass over the path, and then over the path of each folder above it, from the nearest up to the first with a
     /// decision. So the time grows with the square of their number.
@@ -129,95 +126,81 @@ impl Rules {
         scratch: &mut IgnoreScratch,
     ) -> Decision
         requires { FitsRules scratch.old self.now }
-        ensures decision { result ≡ nearest_decision (rules_decision self.now) path.now is_folder }
+        ensures decision { result
+            ≡ decision_of (deciding Nearest (rules_rule self.now) path.now is_folder) }
         ensures scratch { scratch.new ≡ scratch.old }
     {
-        two_rules::decide_nearest(self, path, is_folder, scratch)
+        decision_of(self.deciding_rule(path, is_folder, DecideBy::Nearest, scratch))
     }
 
-    /// Returns the number of the line with the last rule that applies to a path, counted from 1, or `None` if no rule does.
-    pub fn deciding_line(
+    /// Returns the rule that decides about a path, or `None` if no rule does. The file of the rule is 0.
+    ///
+    /// It takes the time of [`Rules::decide`], [`Rules::decide_below`] or [`Rules::decide_nearest`].
+    pub fn deciding_rule(
         &self,
         path: &[u8],
         is_folder: bool,
+        by: DecideBy,
         scratch: &mut IgnoreScratch,
-    ) -> Option<usize>
+    ) -> Option<DecidingRule>
         requires { FitsRules scratch.old self.now }
-        ensures line { result ≡ deciding_line self.now.ignore_case self.now.file path.now is_folder }
+        ensures rule { result ≡ deciding by (rules_rule self.now) path.now is_folder }
         ensures scratch { scratch.new ≡ scratch.old }
     {
-        line_by(self.last_entry(path, is_folder, scratch))
+        deciding(self, by, path, 0, is_folder, scratch)
     }
 
     /// Like [`Rules::decide`], with a scratch of its own.
     pub fn decide_once(&self, path: &[u8], is_folder: bool) -> Result<Decision, AllocError>
-        ensures decision { IfOk result (λ d. d ≡ rules_decision self.now path.now is_folder) }
+        ensures decision { IfOk result (λ d. d ≡ decision_of (rules_rule self.now path.now is_folder)) }
     {
         let mut scratch = IgnoreScratch::new(self.stored.allocator(), self)?;
         Ok(self.decide(path, is_folder, &mut scratch))
     }
 
-    /// Like [`Rules::deciding_line`], with a scratch of its own.
-    pub fn deciding_line_once(
+    /// Like [`Rules::deciding_rule`], with a scratch of its own.
+    pub fn deciding_rule_once(
         &self,
         path: &[u8],
         is_folder: bool,
-    ) -> Result<Option<usize>, AllocError>
-        ensures line { IfOk result
-            (λ n. n ≡ deciding_line self.now.ignore_case self.now.file path.now is_folder) }
+        by: DecideBy,
+    ) -> Result<Option<DecidingRule>, AllocError>
+        ensures rule { IfOk result
+            (λ rule. rule ≡ deciding by (rules_rule self.now) path.now is_folder) }
     {
         let mut scratch = IgnoreScratch::new(self.stored.allocator(), self)?;
-        Ok(self.deciding_line(path, is_folder, &mut scratch))
+        Ok(self.deciding_rule(path, is_folder, by, &mut scratch))
     }
 
-    /// Decides about each folder above a path, as [`Rules::decide`] does, from the highest folder down.
+    /// Returns the numbers, counted from 1, of the lines that git cannot read: their pattern ends in a `\` that escapes nothing, or
+    /// has a class that is not closed or has an unknown name. They have no effect. Blank lines, comments, and lines such as `/` and
+    /// `!`, which have no effect either, are not among them.
     ///
-    /// The decision about a folder is put at the index of the `/` after it in the path, unless a decision is there already: an
-    /// item that is not [`Decision::Undecided`] stays as it is. So calls for several files, deeper folders first, find the
-    /// decisions of all the files. The path below the folder of the file begins at `start`. Folders that end before are left out,
-    /// and folders beyond the end of `decisions`. All other items stay as they are.
+    /// ```rust
+    /// use git_ignore::Rules;
     ///
-    /// Each folder takes a pass over its whole path, with a scratch of the call's own. After an error no decision is put.
-    pub fn decide_folders(
-        &self,
-        path: &[u8],
-        start: usize,
-        decisions: &mut [Decision],
-    ) -> Result<(), AllocError>
-        ensures put { OnOk result
-            (ArePut (λ folder. rules_decision self.now folder true) path.now start decisions.old
-            decisions.new) }
-        ensures kept { OnErr result (decisions.new ≡ decisions.old) }
-    {
-        let mut scratch = IgnoreScratch::new(self.stored.allocator(), self)?;
-        for end in start..path.len().min(decisions.len()) {
-            if path[end] == b'/' && decisions[end].is_undecided() {
-                decisions[end] = self.decide(&path[start..end], true, &mut scratch);
-            }
-        }
-        Ok(())
-    }
-
-    /// Returns the numbers, counted from 1, of the lines that git cannot read: those without a pattern that are neither blank nor
-    /// a comment.
+    /// let rules = Rules::new(alloc, b"a\\\n/\n!\n \n#[\n[a\n[[:x:]]\n\0[\n!/\n")?;
+    /// assert_eq!(rt; rules.unread_lines(), [1, 6, 7].as_slice());
+    /// ```
     pub fn unread_lines(&self) -> &[usize] {
         &self.unread
     }
 
-    /// Returns the entry of the last rule that applies to a path.
-    fn last_entry(
+    /// Returns the rule that decides about a path alone, if these are the rules of the file with this index.
+    pub(crate) fn rule_in(
         &self,
+        file: usize,
         path: &[u8],
         is_folder: bool,
         scratch: &mut IgnoreScratch,
-    ) -> Option<RuleEntry>
+    ) -> Option<DecidingRule>
         requires { FitsRules scratch.old self.now }
-        ensures entry { result
-            ≡ entry_of_rule
-            (last_rule self.now.ignore_case path.now is_folder (rules_of self.now.file)) }
+        ensures rule { result
+            ≡ deciding_rule self.now.ignore_case self.now.file file path.now is_folder }
         ensures scratch { scratch.new ≡ scratch.old }
     {
-        self.stored.last_entry(path, is_folder, scratch, &mut None)
+        self.stored
+            .deciding_rule(file, path, is_folder, scratch, &mut None)
     }
 
     /// Returns the number of states of the automaton.
@@ -248,13 +231,18 @@ impl Rules {
 }
 
 impl DecidesAlone for Rules {
-    ghost use Rattle.git_ignore.specs.RulesValue.{FitsRules, rules_decision};
+    ghost use Rattle.git_ignore.specs.RulesValue.{FitsRules, rules_rule};
 
     ghost fits = { FitsRules };
 
-    ghost alone = { rules_decision };
+    ghost alone = { rules_rule };
 
-    fn decide_alone(&self, path: &[u8], is_folder: bool, scratch: &mut IgnoreScratch) -> Decision {
-        self.decide(path, is_folder, scratch)
+    fn rule_alone(
+        &self,
+        path: &[u8],
+        is_folder: bool,
+        scratch: &mut IgnoreScratch,
+    ) -> Option<DecidingRule> {
+        self.rule_in(0, path, is_folder, scratch)
     }
 }

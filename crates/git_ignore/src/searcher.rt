@@ -1,13 +1,10 @@
 //! The rules of a file with the memory to decide with.
 
 ghost use Rattle.std.specs.Prelude.{◌≡◌, true, IfOk};
-ghost use Rattle.git_ignore.specs.FolderDecisions.{ArePut};
-ghost use Rattle.git_ignore.specs.Rules.{deciding_line, last_rule, rules_of};
-ghost use Rattle.git_ignore.specs.RulesValue.{rules_decision};
-ghost use Rattle.git_ignore.specs.inner.Entries.{entry_of_rule};
+ghost use Rattle.git_ignore.specs.Rules.{decision_of};
+ghost use Rattle.git_ignore.specs.RulesValue.{rules_rule};
 
-use crate::decision::Decision;
-use crate::entry::{RuleEntry, decision_by, line_by};
+use crate::decision::{DecidingRule, Decision, decision_of};
 use crate::rules::Rules;
 use crate::scratch::IgnoreScratch;
 use crate::stored::StoredRules;
@@ -30,12 +27,8 @@ use std::sync::Arc;
 /// let rules = Rules::new(alloc, b"*.o\n!a.o\nout/\n")?;
 /// let mut searcher = RulesSearcher::new(alloc, &rules)?;
 /// assert_eq!(rt; searcher.decide(b"src/b.o", false), Decision::Ignored);
-/// assert_eq!(rt; searcher.deciding_line(b"a.o", false), Some(2));
+/// assert_eq!(rt; searcher.decide(b"a.o", false), Decision::Kept);
 /// assert_eq!(rt; searcher.decide(b"out", false), Decision::Undecided);
-///
-/// let mut decisions = [Decision::Undecided; 5];
-/// searcher.decide_folders(b"out/x", 0, &mut decisions);
-/// assert_eq!(rt; decisions[3], Decision::Ignored);
 /// ```
 #[derive(Drop)]
 pub struct RulesSearcher {
@@ -85,41 +78,18 @@ impl RulesSearcher {
 
     /// Returns the decision of the file about a path below its folder, as [`Rules::decide`] does.
     pub fn decide(&mut self, path: &[u8], is_folder: bool) -> Decision
-        ensures decision { result ≡ rules_decision self.old path.now is_folder }
+        ensures decision { result ≡ decision_of (rules_rule self.old path.now is_folder) }
         ensures kept { self.new ≡ self.old }
     {
-        decision_by(self.last_entry(path, is_folder))
+        decision_of(self.deciding_rule(path, is_folder))
     }
 
-    /// Returns the number of the line that decides about a path, as [`Rules::deciding_line`] does.
-    pub fn deciding_line(&mut self, path: &[u8], is_folder: bool) -> Option<usize>
-        ensures line { result ≡ deciding_line self.old.ignore_case self.old.file path.now is_folder }
-        ensures kept { self.new ≡ self.old }
-    {
-        line_by(self.last_entry(path, is_folder))
-    }
-
-    /// Decides about each folder above a path, as [`Rules::decide_folders`] does.
-    pub fn decide_folders(&mut self, path: &[u8], start: usize, decisions: &mut [Decision])
-        ensures put { ArePut (λ folder. rules_decision self.old folder true) path.now start
-            decisions.old decisions.new }
-        ensures kept { self.new ≡ self.old }
-    {
-        for end in start..path.len().min(decisions.len()) {
-            if path[end] == b'/' && decisions[end].is_undecided() {
-                decisions[end] = self.decide(&path[start..end], true);
-            }
-        }
-    }
-
-    /// Returns the entry of the last rule that applies to a path.
-    fn last_entry(&mut self, path: &[u8], is_folder: bool) -> Option<RuleEntry>
-        ensures entry { result
-            ≡ entry_of_rule
-            (last_rule self.old.ignore_case path.now is_folder (rules_of self.old.file)) }
+    /// Returns the rule that decides about a path alone, or `None` if no rule does. The file of the rule is 0.
+    pub fn deciding_rule(&mut self, path: &[u8], is_folder: bool) -> Option<DecidingRule>
+        ensures rule { result ≡ rules_rule self.old path.now is_folder }
         ensures kept { self.new ≡ self.old }
     {
         self.stored
-            .last_entry(path, is_folder, &mut self.scratch, &mut self.cache)
+            .deciding_rule(0, path, is_folder, &mut self.scratch, &mut self.cache)
     }
 }

@@ -1,14 +1,16 @@
 //! Ignore files of nested folders.
 
-ghost use Rattle.std.specs.Prelude.{◌≡◌, ◌++◌, ◌∷◌, [], true, false, IfOk, OnOk, OnErr, length, take};
-ghost use Rattle.git_ignore.specs.Folders.{files_decision};
-ghost use Rattle.git_ignore.specs.StackValue.{at_top, entered, left, stack_files, with_file};
-ghost use Rattle.git_ignore.specs.TwoRules.{decision_below, ignores, is_below_ignored, nearest_decision};
+ghost use Rattle.std.specs.Prelude.{◌≡◌, ◌≤◌, ◌<◌, ◌++◌, ◌∷◌, [], true, false, IfOk, MatchOption, OnOk, OnErr, is_some, length, take};
+ghost use Rattle.git_ignore.specs.Rules.{decision_of};
+ghost use Rattle.git_ignore.specs.Folders.{files_rule};
+ghost use Rattle.git_ignore.specs.StackValue.{at_top, entered, left, stack_files, stack_rule, with_file};
+ghost use Rattle.git_ignore.specs.TwoRules.{ignored_above, ignoring};
+ghost use Rattle.git_ignore.specs.declared.decision.DecideBy.TheVariants.{Git, Nearest};
 
-use crate::decision::Decision;
+use crate::decision::{DecideBy, DecidingRule, Decision, decision_of, ignoring};
 use crate::folder_rules::FolderRules;
 use crate::scratch::IgnoreScratch;
-use crate::two_rules::{decide_below, decide_nearest};
+use crate::two_rules::deciding;
 use std::alloc::{AllocError, Global};
 use std::marker::Model;
 
@@ -19,8 +21,8 @@ pub struct FolderLevel {
     folder: usize,
     /// The number of files in it and above it.
     files: usize,
-    /// Whether it is ignored, or a folder above it is.
-    is_ignored: bool,
+    /// The rule that ignores it or a folder above it, if any is ignored.
+    ignored_by: Option<DecidingRule>,
 }
 
 /// The folder that a walk is in, with the ignore files in it and in the folders above it.
@@ -41,13 +43,12 @@ pub struct FolderLevel {
 /// # Errors
 ///
 /// Calls that return a [`Result`] fail only if memory runs out.
-#[derive(Drop)]
 pub struct IgnoreStack {
     alloc: Global,
     /// The path of the folder: empty for the top folder, and otherwise with `/` at its end.
     folder: Vec<u8>,
-    /// Whether the folder is ignored, or a folder above it is.
-    is_ignored: bool,
+    /// The rule that ignores the folder or a folder above it, if any is ignored.
+    ignored_by: Option<DecidingRule>,
     /// The files, from the top down.
     files: Vec<FolderRules>,
     /// The folders above, from the top down.
@@ -65,7 +66,22 @@ impl Model for IgnoreStack {
 
     ghost view = { λ s. stack_value s.ignore_case s.folder.items s.files.items s.levels.items };
 
-    ghost invariant = { λ s. IsStack s.ignore_case s.folder.items s.is_ignored s.files.items s.levels.items s.scratch };
+    ghost invariant = { λ s. IsStack s.ignore_case s.folder.items s.ignored_by s.files.items s.levels.items s.scratch };
+}
+
+impl Drop for IgnoreStack {
+    // One call wherever a value is dropped, which keeps proofs short.
+    fn drop(self) {
+        let IgnoreStack {
+            alloc: _,
+            folder: _,
+            ignored_by: _,
+            files: _,
+            levels: _,
+            scratch: _,
+            ignore_case: _,
+        } = self;
+    }
 }
 
 impl IgnoreStack {
@@ -83,7 +99,7 @@ impl IgnoreStack {
         IgnoreStack {
             alloc,
             folder: Vec::new(alloc),
-            is_ignored: false,
+            ignored_by: None,
             files: Vec::new(alloc),
             levels: Vec::new(alloc),
             scratch: IgnoreScratch::empty(alloc),
@@ -102,9 +118,10 @@ impl IgnoreStack {
     /// Returns whether the folder that the walk is in is ignored, or a folder above it is. Then by git's rule all that is in it is
     /// ignored.
     pub fn is_ignored(&self) -> bool
-        ensures { result ≡ is_below_ignored (files_decision (stack_files self.now)) self.now.here.path }
+        ensures { result
+            ≡ is_some (ignored_above (files_rule (stack_files self.now)) self.now.here.path) }
     {
-        self.is_ignored
+        self.ignored_by.is_some()
     }
 
     /// Reads an ignore file of the folder that the walk is in, given by its bytes. It takes precedence over the files that are
@@ -133,9 +150,8 @@ impl IgnoreStack {
         ensures entered { OnOk result (self.new ≡ entered self.old name.now) }
         ensures kept { OnErr result (self.new ≡ self.old) }
     {
-        let decision = self.decide(name, true)?;
-        self.push_level(name, decision.is_ignored())?;
-        Ok(())
+        let rule = self.deciding_rule(name, true, DecideBy::Git)?;
+        self.push_level(name, ignoring(rule))
     }
 
     /// Goes up to the folder above, without the ignore files that were added since it was left. In the top folder it does
@@ -146,76 +162,117 @@ impl IgnoreStack {
         if let Some(level) = self.levels.pop() {
             self.folder.truncate(level.folder);
             self.files.truncate(level.files);
-            self.is_ignored = level.is_ignored;
+            self.ignored_by = level.ignored_by;
         }
     }
 
-    /// Returns the decision of the ignore files about a path below the current folder, such as the name of an entry, by git's rule.
+    /// Returns the decision of the ignore files about a path below the current folder, such as the name of an entry, by git's rule
+    /// ([`DecideBy::Git`]).
     ///
     /// The folders that the path names above its last component count, too: below an ignored folder, the path is ignored.
     ///
     /// The call allocates to put the folder's path in front of this path.
     pub fn decide(&mut self, path: &[u8], is_folder: bool) -> Result<Decision, AllocError>
         ensures decision { IfOk result
-            (λ d. d ≡ decision_below (files_decision (stack_files self.old)) (self.old.here.path ++ path.now)
-            is_folder) }
+            (λ d. d ≡ decision_of (stack_rule self.old Git path.now is_folder)) }
         ensures same { self.new ≡ self.old }
     {
-        if self.is_ignored {
-            return Ok(Decision::Ignored);
+        Ok(decision_of(self.deciding_rule(path, is_folder, DecideBy::Git)?))
+    }
+
+    /// Returns the nearest decision of the ignore files about a path below the current folder ([`DecideBy::Nearest`]). That about a
+    /// path or a folder above it is the decision of the deepest file with a rule that applies; the ignore files of folders that are
+    /// ignored count.
+    ///
+    /// The call allocates as [`IgnoreStack::decide`] does. It takes a pass over the path for each ignore file above it, and then
+    /// such passes for the folders above it, from the nearest up to the first with a decision.
+    pub fn decide_nearest(&mut self, path: &[u8], is_folder: bool) -> Result<Decision, AllocError>
+        ensures decision { IfOk result
+            (λ d. d ≡ decision_of (stack_rule self.old Nearest path.now is_folder)) }
+        ensures same { self.new ≡ self.old }
+    {
+        Ok(decision_of(self.deciding_rule(path, is_folder, DecideBy::Nearest)?))
+    }
+
+    /// Returns the rule that decides about a path below the current folder, as `git check-ignore -v` tells it, or `None` if no rule
+    /// does. Below an ignored folder, by git's rule, it is the rule that ignores the highest such folder.
+    ///
+    /// The call allocates and takes time as [`IgnoreStack::decide`] and [`IgnoreStack::decide_nearest`] do.
+    ///
+    /// ```rust
+    /// use git_ignore::{DecideBy, DecidingRule, IgnoreStack};
+    ///
+    /// let mut stack = IgnoreStack::new(alloc);
+    /// stack.add_file(b"*.tmp\n")?;
+    /// stack.add_file(b"# Files of this project\n/out/\n!/out/keep.tmp\n")?;
+    /// let ignored = DecidingRule { file: 1, line: 2, is_negated: false };
+    /// let kept = DecidingRule { file: 1, line: 3, is_negated: true };
+    /// let path = b"out/keep.tmp";
+    /// assert_eq!(rt; stack.deciding_rule(path, false, DecideBy::Git)?, Some(ignored));
+    /// assert_eq!(rt; stack.deciding_rule(path, false, DecideBy::Nearest)?, Some(kept));
+    /// assert_eq!(rt; stack.deciding_rule(b"a.c", false, DecideBy::Git)?, None);
+    /// ```
+    pub fn deciding_rule(
+        &mut self,
+        path: &[u8],
+        is_folder: bool,
+        by: DecideBy,
+    ) -> Result<Option<DecidingRule>, AllocError>
+        ensures rule { IfOk result (λ rule. rule ≡ stack_rule self.old by path.now is_folder) }
+        ensures same { self.new ≡ self.old }
+    {
+        let known = match by {
+            DecideBy::Git => self.ignored_by,
+            _ => None,
+        };
+        if known.is_some() {
+            return Ok(known);
         }
         let start = self.folder.len();
         self.folder.extend_from_slice(path)?;
-        let decision = decide_below(
+        let rule = deciding(
             &self.files,
+            by,
             &self.folder,
             start,
             is_folder,
             &mut self.scratch,
         );
         self.folder.truncate(start);
-        Ok(decision)
+        Ok(rule)
     }
 
-    /// Returns the nearest decision of the ignore files about a path below the current folder: the decision about the path, or if
-    /// there is none, about the nearest folder above it that has one. Both are decisions of the deepest file with a rule that
-    /// applies.
-    ///
-    /// So a rule can keep a path below an ignored folder: see [`crate::Rules::decide_nearest`]. The ignore files of folders that
-    /// are ignored count.
-    ///
-    /// The call allocates as [`IgnoreStack::decide`] does. It takes a pass over the path for each ignore file above it, and then
-    /// such passes for the folders above it, from the nearest up to the first with a decision.
-    pub fn decide_nearest(&mut self, path: &[u8], is_folder: bool) -> Result<Decision, AllocError>
-        ensures decision { IfOk result
-            (λ d. d ≡ nearest_decision (files_decision (stack_files self.old))
-            (self.old.here.path ++ path.now) is_folder) }
-        ensures same { self.new ≡ self.old }
+    /// Returns the numbers, counted from 1, of the lines of a file that git cannot read, as [`crate::Rules::unread_lines`] does; or
+    /// `None` if there is no file with this index. The indexes are those of [`DecidingRule::file`].
+    pub fn unread_lines(&self, file: usize) -> Option<&[usize]>
+        ensures { MatchOption result (length (stack_files self.now) ≤ file)
+            (λ lines. file < length (stack_files self.now)) }
     {
-        let start = self.folder.len();
-        self.folder.extend_from_slice(path)?;
-        let decision = decide_nearest(&self.files, &self.folder, is_folder, &mut self.scratch);
-        self.folder.truncate(start);
-        Ok(decision)
+        match self.files.get(file) {
+            Some(rules) => Some(rules.unread_lines()),
+            None => None,
+        }
     }
 
-    /// Goes down into a folder of this name, which is ignored or not. After an error nothing has changed.
-    fn push_level(&mut self, name: &[u8], is_ignored: bool) -> Result<(), AllocError>
-        requires { is_ignored
-            ≡ ignores (decision_below (files_decision (stack_files self.old)) (self.old.here.path ++ name.now)
-            true) }
+    /// Goes down into a folder of this name, which this rule ignores if any does. After an error nothing has changed.
+    fn push_level(
+        &mut self,
+        name: &[u8],
+        ignored_by: Option<DecidingRule>,
+    ) -> Result<(), AllocError>
+        requires { ignored_by ≡ ignoring (stack_rule self.old Git name.now true) }
         ensures entered { OnOk result (self.new ≡ entered self.old name.now) }
         ensures kept { OnErr result (self.new ≡ self.old) }
     {
         let level = FolderLevel {
             folder: self.folder.len(),
             files: self.files.len(),
-            is_ignored: self.is_ignored,
+            ignored_by: self.ignored_by,
         };
         push_name(&mut self.folder, name)?;
         match self.levels.push(level) {
             Ok(()) => {
-                self.is_ignored = is_ignored;
+                self.ignored_by = ignored_by;
                 Ok(())
             }
             Err(_) => {

@@ -1,11 +1,12 @@
 //! The part of rules that their searchers share.
 
 ghost use Rattle.std.specs.Prelude.{◌≡◌, IfOk, IfSome};
-ghost use Rattle.git_ignore.specs.Rules.{last_rule, rules_of};
+ghost use Rattle.git_ignore.specs.Rules.{deciding_rule, rules_of};
 ghost use Rattle.git_ignore.specs.RulesValue.{FitsRules};
-ghost use Rattle.git_ignore.specs.inner.Entries.{ArePartsOf, entry_of_rule, rules_value};
+ghost use Rattle.git_ignore.specs.inner.Entries.{ArePartsOf, rules_value};
 
-use crate::entry::{RuleEntry, last_entry_for};
+use crate::decision::DecidingRule;
+use crate::entry::{RuleEntry, last_entry_for, told_of};
 use crate::scratch::IgnoreScratch;
 use bit_sets::Visits;
 use glob_matching::{Compiled, DEFAULT_DFA_SIZE_LIMIT};
@@ -97,20 +98,20 @@ impl StoredRules {
         self.automaton.keep_cache();
     }
 
-    /// Returns the entry of the last rule that applies to a path. It reads the rows of the cache, or without one the rows that are
-    /// kept between calls.
-    pub fn last_entry(
+    /// Returns the rule that decides about a path alone, if these are the rules of the file with this index. It reads the rows of the
+    /// cache, or without one the rows that are kept between calls.
+    pub fn deciding_rule(
         &self,
+        file: usize,
         path: &[u8],
         is_folder: bool,
         scratch: &mut IgnoreScratch,
         cache: &mut Option<Cache>,
-    ) -> Option<RuleEntry>
+    ) -> Option<DecidingRule>
         requires fits { FitsRules scratch.old (rules_value self.now) }
         requires cache { IfSome cache.old (λ c. c ≡ self.now.automaton) }
-        ensures entry { result
-            ≡ entry_of_rule
-            (last_rule self.now.ignore_case path.now is_folder (rules_of self.now.file)) }
+        ensures rule { result
+            ≡ deciding_rule self.now.ignore_case self.now.file file path.now is_folder }
         ensures scratch { scratch.new ≡ scratch.old }
         ensures cache { cache.new ≡ cache.old }
     {
@@ -124,6 +125,7 @@ impl StoredRules {
                 &mut Visits::new(),
             )
             .unwrap();
-        last_entry_for(&self.entries, &scratch.found, is_folder)
+        let last = last_entry_for(&self.entries, &scratch.found, is_folder);
+        told_of(file, last)
     }
 }

@@ -1,6 +1,9 @@
 //! What no clause says: that calls succeed, and that a searcher outlives its rules.
 
-use crate::{Decision, IgnoreScratch, IgnoreStack, Rules, RulesBuilder, RulesSearcher};
+use crate::{
+    DecideBy, DecidingRule, Decision, IgnoreScratch, IgnoreStack, Rules, RulesBuilder,
+    RulesSearcher,
+};
 use std::alloc::{AllocError, Global};
 
 const FILE: &[u8] = b"*.o\nout/\n!keep.o\n/top\n**/k/**/m/\n\n# no rule\ndoc/*.txt\n";
@@ -19,12 +22,22 @@ const SAID: [(&[u8], bool, Decision, Option<usize>); 10] = [
     (b"k/m", true, Decision::Ignored, Some(5)),
 ];
 
+/// Returns the number of a rule's line.
+fn line_of(rule: Option<DecidingRule>) -> Option<usize> {
+    rule.map(|rule| rule.line)
+}
+
+/// Returns the line of the rule that decides about a path alone.
+fn line_alone(rules: &Rules, path: &[u8], is_folder: bool) -> Result<Option<usize>, AllocError> {
+    Ok(line_of(rules.deciding_rule_once(path, is_folder, DecideBy::PathAlone)?))
+}
+
 /// Returns the first row that a searcher gets wrong, if it decides about each path twice.
 fn wrong_row(searcher: &mut RulesSearcher) -> Option<usize> {
     for (row, (path, is_folder, decision, line)) in SAID.iter().enumerate() {
         for _ in 0..2 {
             if searcher.decide(path, *is_folder) != *decision
-                || searcher.deciding_line(path, *is_folder) != *line
+                || line_of(searcher.deciding_rule(path, *is_folder)) != *line
             {
                 return Some(row);
             }
@@ -56,28 +69,7 @@ fn rules_say_the_same(rt: HostRuntime) -> Result<(), AllocError> {
             *decision,
             "row {row}"
         );
-        assert_eq!(rt;
-            rules.deciding_line_once(path, *is_folder)?,
-            *line,
-            "row {row}"
-        );
-    }
-    Ok(())
-}
-
-#[test]
-fn searcher_decides_about_folders_again(rt: HostRuntime) -> Result<(), AllocError> {
-    let alloc = rt.alloc();
-    let mut searcher = RulesSearcher::new(alloc, &Rules::new(alloc, FILE)?)?;
-    for _ in 0..2 {
-        let mut decisions = [Decision::Undecided; 9];
-        searcher.decide_folders(b"x/k/y/m/f", 0, &mut decisions);
-        assert_eq!(rt;
-            decisions.iter().position(|it| *it != Decision::Undecided),
-            Some(7)
-        );
-        assert_eq!(rt; decisions[7], Decision::Ignored);
-        assert_eq!(rt; wrong_row(&mut searcher), None);
+        assert_eq!(rt; line_alone(&rules, path, *is_folder)?, *line, "row {row}");
     }
     Ok(())
 }
@@ -108,8 +100,8 @@ fn wrong_row_of(
 ) -> Result<Option<usize>, AllocError> {
     for (row, (path, is_folder, line, in_any_case)) in BY_CASE.iter().enumerate() {
         let wanted = if ignore_case { *in_any_case } else { *line };
-        if rules.deciding_line_once(path, *is_folder)? != wanted
-            || searcher.deciding_line(path, *is_folder) != wanted
+        if line_alone(rules, path, *is_folder)? != wanted
+            || line_of(searcher.deciding_rule(path, *is_folder)) != wanted
         {
             return Ok(Some(row));
         }
@@ -212,6 +204,46 @@ fn nearest_decision_of_nested_files(rt: HostRuntime) -> Result<(), AllocError> {
     Ok(())
 }
 
+/// Each path below `a`, with the file and the line that `git check-ignore -v` prints for it; it prints none for a path that is kept
+/// by no rule.
+const BY_FILES: [(&[u8], bool, Option<(usize, usize)>); 7] = [
+    (b"x.tmp", false, Some((0, 1))),
+    (b"y.tmp", false, Some((2, 1))),
+    (b"out", true, Some((1, 2))),
+    (b"out/y.tmp", false, Some((1, 2))),
+    (b"b/z", false, Some((2, 3))),
+    (b"b/out/z", false, Some((2, 3))),
+    (b"c", false, None),
+];
+
+#[test]
+fn rules_of_nested_files(rt: HostRuntime) -> Result<(), AllocError> {
+    let mut stack = IgnoreStack::new(rt.alloc());
+    stack.add_file(b"*.tmp\n")?;
+    stack.add_file(b"# of the project\n/a/out/\n[\n")?;
+    stack.enter(b"a")?;
+    stack.add_file(b"!y.tmp\n\n/b/\n")?;
+    for (row, (path, is_folder, wanted)) in BY_FILES.iter().enumerate() {
+        let rule = stack.deciding_rule(path, *is_folder, DecideBy::Git)?;
+        assert_eq!(rt;
+            rule.map(|rule| (rule.file, rule.line)),
+            *wanted,
+            "row {row}"
+        );
+    }
+    assert_eq!(rt; stack.unread_lines(1), Some([3].as_slice()));
+    assert_eq!(rt; stack.unread_lines(3), None);
+
+    // In an ignored folder the rule that ignores it decides.
+    stack.enter(b"out")?;
+    stack.add_file(b"!*\n")?;
+    let rule = stack.deciding_rule(b"z", false, DecideBy::Git)?;
+    assert_eq!(rt; rule.map(|rule| (rule.file, rule.line)), Some((1, 2)));
+    let rule = stack.deciding_rule(b"z", false, DecideBy::PathAlone)?;
+    assert_eq!(rt; rule.map(|rule| (rule.file, rule.line)), Some((3, 1)));
+    Ok(())
+}
+
 /// Returns a file of 50 lines that need an automaton: line `n` is `*a` with `n + 9` behind it, and then `*b*`.
 fn odd_lines(alloc: Global) -> Result<Vec<u8>, AllocError> {
     let mut file = Vec::new(alloc);
@@ -240,7 +272,7 @@ fn searcher_keeps_rows(rt: HostRuntime) -> Result<(), AllocError> {
     for turn in 0..3 {
         for (row, (path, line)) in lines.iter().enumerate() {
             assert_eq!(rt;
-                searcher.deciding_line(path, false),
+                line_of(searcher.deciding_rule(path, false)),
                 *line,
                 "row {row}, turn {turn}"
             );

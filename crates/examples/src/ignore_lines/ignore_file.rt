@@ -2,7 +2,7 @@
 
 use crate::fault::Fault;
 use crate::text_file::TextFile;
-use git_ignore::{Decision, RulesBuilder, RulesSearcher};
+use git_ignore::{RulesBuilder, RulesSearcher};
 use memchr::{memchr, memrchr};
 use std::alloc::Global;
 
@@ -56,11 +56,10 @@ impl IgnoreFile {
     /// Returns the line that decides about a path, if the path is below the directory and a line does.
     pub fn deciding_line(&mut self, path: &[u8], is_folder: bool) -> Option<DecidingLine> {
         let below = path.strip_prefix(self.folder())?;
-        let number = self.searcher.deciding_line(below, is_folder)?;
-        let decision = self.searcher.decide(below, is_folder);
+        let rule = self.searcher.deciding_rule(below, is_folder)?;
         Some(DecidingLine {
-            number,
-            ignores: decision == Decision::Ignored,
+            number: rule.line,
+            ignores: !rule.is_negated,
         })
     }
 

@@ -11,30 +11,20 @@ use Rattle.byte_nfa.specs.Steps.{IsReached, NfaValue}
 use Rattle.glob_matching.specs.Matching.{AddsReached}
 use Rattle.ignore_pattern.specs.Automata.{IsAutomatonOf, matches_at}
 use Rattle.ignore_pattern.specs.Patterns.{Pattern, pattern_matches}
-use Rattle.git_ignore.specs.Rules.{Rule, applies, last_rule, said, line_of, decision, deciding_line, rules_of}
-use Rattle.git_ignore.specs.RulesValue.{RulesValue, rules_decision}
+use Rattle.git_ignore.specs.Rules.{Rule, applies, last_rule, told, deciding_rule, rules_of}
 use Rattle.git_ignore.specs.declared.entry.RuleEntry.{RuleEntry}
-use Rattle.git_ignore.specs.inner.Entries.{is_for, entry_of, entry_of_rule, decision_of, line_of_entry, chosen, last_found, rule_at, patterns_of, entries_of, ArePartsOf, AreStored}
+use Rattle.git_ignore.specs.inner.Entries.{is_for, entry_of, entry_of_rule, told_of, chosen, last_found, rule_at, patterns_of, entries_of, ArePartsOf, AreStored}
 
--- ---- from entries to answers
+-- ---- from entries to rules that decide
 
-decision_of_rule : (o : Option Rule) → decision_of (entry_of_rule o) ≡ said o
-decision_of_rule None = refl
-decision_of_rule (Some rule) = refl
+told_of_rule : (file : ℕ) (o : Option Rule) → told_of file (entry_of_rule o) ≡ told file o
+told_of_rule file None = refl
+told_of_rule file (Some rule) = refl
 
-pub decided : (rules : RulesValue) (path : List ℕ) (is_folder : Bool) (e : Option RuleEntry) → e ≡ entry_of_rule (last_rule rules.ignore_case path is_folder (rules_of rules.file))
-    → decision_of e ≡ rules_decision rules path is_folder
-unfolding decision
-decided rules path is_folder e h = ap decision_of h ∙ decision_of_rule (last_rule rules.ignore_case path is_folder (rules_of rules.file))
-
-line_of_rule : (o : Option Rule) → line_of_entry (entry_of_rule o) ≡ line_of o
-line_of_rule None = refl
-line_of_rule (Some rule) = refl
-
-pub decided_by : (rules : RulesValue) (path : List ℕ) (is_folder : Bool) (e : Option RuleEntry) → e ≡ entry_of_rule (last_rule rules.ignore_case path is_folder (rules_of rules.file))
-    → line_of_entry e ≡ deciding_line rules.ignore_case rules.file path is_folder
-unfolding deciding_line
-decided_by rules path is_folder e h = ap line_of_entry h ∙ line_of_rule (last_rule rules.ignore_case path is_folder (rules_of rules.file))
+pub decided_by : (c : Bool) (bytes path : List ℕ) (file : ℕ) (is_folder : Bool) (e : Option RuleEntry) → e ≡ entry_of_rule (last_rule c path is_folder (rules_of bytes))
+    → told_of file e ≡ deciding_rule c bytes file path is_folder
+unfolding deciding_rule
+decided_by c bytes path file is_folder e h = ap (told_of file) h ∙ told_of_rule file (last_rule c path is_folder (rules_of bytes))
 
 -- ---- one rule more
 

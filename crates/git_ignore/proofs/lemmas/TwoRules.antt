@@ -1,12 +1,11 @@
--- The folders above paths, and what two rules make of the decisions about them.
+-- The folders above paths, and the rules that decide about them.
 use Rattle.std.proofs.Common.{◌≡◌, ℕ, ◌+◌, ◌<◌, List, [], ◌∷◌, ◌++◌, length, take, drop, get_or, Bool, true, false, refl, ap, sym, ◌∙◌, append-nil}
-use Rattle.std.specs.Prelude.{◌==◌, ◌||◌, if◌then◌else◌, map}
-use Rattle.std.specs.List.{list_any}
+use Rattle.std.specs.Prelude.{◌==◌, if◌then◌else◌, map, Option, Some, None, is_some}
+use Rattle.std.proofs.lemmas.Bool.{false≢true}
 use Rattle.std.proofs.lemmas.List.{map-append, take_more, take-append-drop}
-use Rattle.std.proofs.lemmas.List.Folds.{list_any-append}
-use Rattle.git_ignore.specs.TwoRules.{or_else, last_decision, folders_above, ignores, is_below_ignored, decision_below, nearest_decision}
-use Rattle.git_ignore.specs.declared.decision.Decision.{Decision}
-use Rattle.git_ignore.specs.declared.decision.Decision.TheVariants.{Ignored, Kept, Undecided}
+use Rattle.git_ignore.specs.TwoRules.{or_else, first_answer, last_answer, folders_above, ignoring, ignored_above, deciding}
+use Rattle.git_ignore.specs.declared.decision.DecideBy.TheVariants.{Git, Nearest, PathAlone}
+use Rattle.git_ignore.specs.declared.decision.DecidingRule.{DecidingRule}
 
 -- ---- folders above a path
 
@@ -38,133 +37,161 @@ folders_more p c = folders_above-append p (c ∷ []) ∙ ap (λ (fs : List (List
     of true = ap (λ (q : List ℕ). q ∷ []) (append-nil p)
     of false = refl
 
--- the decision about the folder that ends before a byte, if it is `/`
-abbrev pub ending : (List ℕ → Bool → Decision) → List ℕ → ℕ → Decision
-ending alone p c = if c == 47 then alone p true else Undecided
+-- the rules that decide about paths alone
+abbrev Alone : Type 0
+Alone = List ℕ → Bool → Option DecidingRule
+
+-- the rule about the folder that ends before a byte, if it is `/`
+abbrev pub ending : (List ℕ → Bool → Option DecidingRule) → List ℕ → ℕ → Option DecidingRule
+ending alone p c = if c == 47 then alone p true else None
+
+-- ---- the first answer and the last
+
+pub or_else_nothing : {Y : Type 0} (a : Option Y) → or_else a None ≡ a
+or_else_nothing None = refl
+or_else_nothing (Some y) = refl
+
+pub or_else_grouped : {Y : Type 0} (a b c : Option Y) → or_else (or_else a b) c ≡ or_else a (or_else b c)
+or_else_grouped None b c = refl
+or_else_grouped (Some y) b c = refl
+
+pub or_else_some : {Y : Type 0} (a b : Option Y) → is_some a ≡ true → or_else a b ≡ a
+or_else_some None b is = absurd (false≢true is)
+or_else_some (Some y) b is = refl
+
+pub none_if_not_some : {Y : Type 0} (o : Option Y) → is_some o ≡ false → o ≡ None
+none_if_not_some None h = refl
+none_if_not_some (Some y) h = absurd (false≢true (sym h))
+
+first_answer-append : {X Y : Type 0} (about : X → Option Y) (xs ys : List X) → first_answer about (xs ++ ys) ≡ or_else (first_answer about xs) (first_answer about ys)
+first_answer-append about [] ys = refl
+first_answer-append about (x ∷ xs) ys =
+    ap (λ (o : Option _). or_else (about x) o) (first_answer-append about xs ys) ∙ sym (or_else_grouped (about x) (first_answer about xs) (first_answer about ys))
+
+pub last_answer_more : {X Y : Type 0} (about : X → Option Y) (xs : List X) (x : X) → last_answer about (xs ++ x ∷ []) ≡ or_else (about x) (last_answer about xs)
+last_answer_more about [] x = sym (or_else_nothing (about x))
+last_answer_more about (y ∷ ys) x =
+    ap (λ (o : Option _). or_else o (about y)) (last_answer_more about ys x) ∙ or_else_grouped (about x) (last_answer about ys) (about y)
 
 -- ---- ignored folders above a path
 
-pub below_more : (alone : List ℕ → Bool → Decision) (p : List ℕ) (c : ℕ) → is_below_ignored alone (p ++ c ∷ []) ≡ (is_below_ignored alone p || ignores (ending alone p c))
+pub below_more : (alone : Alone) (p : List ℕ) (c : ℕ) → ignored_above alone (p ++ c ∷ []) ≡ or_else (ignored_above alone p) (ignoring (ending alone p c))
 below_more alone p c =
-    let test : List ℕ → Bool = λ folder. ignores (alone folder true) in
-    ap (list_any test) (folders_more p c)
-    ∙ list_any-append test (folders_above p) (if c == 47 then p ∷ [] else [])
-    ∙ ap (λ (b : Bool). is_below_ignored alone p || b) (of (c == 47))
+    let about : List ℕ → Option DecidingRule = λ folder. ignoring (alone folder true) in
+    ap (first_answer about) (folders_more p c)
+    ∙ first_answer-append about (folders_above p) (if c == 47 then p ∷ [] else [])
+    ∙ ap (λ (o : Option DecidingRule). or_else (ignored_above alone p) o) (of (c == 47))
   where
-    or_false : (d : Bool) → (d || false) ≡ d
-    or_false true = refl
-    or_false false = refl
-
-    of : (b : Bool) → list_any (λ folder. ignores (alone folder true)) (if b then p ∷ [] else []) ≡ ignores (if b then alone p true else Undecided)
-    of true = or_false (ignores (alone p true))
+    of : (b : Bool) → first_answer (λ folder. ignoring (alone folder true)) (if b then p ∷ [] else []) ≡ ignoring (if b then alone p true else None)
+    of true = or_else_nothing (ignoring (alone p true))
     of false = refl
 
 -- what is below a path has the folders above it, too
-pub still_below : (alone : List ℕ → Bool → Decision) (p q : List ℕ) → is_below_ignored alone p ≡ true → is_below_ignored alone (p ++ q) ≡ true
-still_below alone p q h =
-    let test : List ℕ → Bool = λ folder. ignores (alone folder true) in
-    ap (list_any test) (folders_above-append p q) ∙ list_any-append test (folders_above p) (map (λ f. p ++ f) (folders_above q))
-    ∙ ap (λ (b : Bool). b || list_any test (map (λ f. p ++ f) (folders_above q))) h
+still_below : (alone : Alone) (p q : List ℕ) (o : Option DecidingRule) → is_some o ≡ true → ignored_above alone p ≡ o → ignored_above alone (p ++ q) ≡ o
+still_below alone p q o is h =
+    let about : List ℕ → Option DecidingRule = λ folder. ignoring (alone folder true) in
+    let more : Option DecidingRule = first_answer about (map (λ f. p ++ f) (folders_above q)) in
+    ap (first_answer about) (folders_above-append p q) ∙ first_answer-append about (folders_above p) (map (λ f. p ++ f) (folders_above q))
+    ∙ ap (λ (e : Option DecidingRule). or_else e more) h ∙ or_else_some o more is
 
-pub ignored_above : (alone : List ℕ → Bool → Decision) (p : List ℕ) (is_folder : Bool) → is_below_ignored alone p ≡ true → Ignored ≡ decision_below alone p is_folder
-unfolding decision_below
-ignored_above alone p d h = ap (λ (b : Bool). if b then Ignored else alone p d) (sym h)
+ignored_by : (alone : Alone) (path : List ℕ) (is_folder : Bool) (o : Option DecidingRule) → is_some o ≡ true → ignored_above alone path ≡ o → o ≡ deciding Git alone path is_folder
+unfolding deciding
+ignored_by alone path d o is h = sym (ap (λ (e : Option DecidingRule). or_else e (alone path d)) h ∙ or_else_some o (alone path d) is)
 
--- below an ignored folder all is ignored
-pub below_ignored : (alone : List ℕ → Bool → Decision) (p q : List ℕ) (is_folder : Bool) → is_below_ignored alone p ≡ true → Ignored ≡ decision_below alone (p ++ q) is_folder
-below_ignored alone p q d h = ignored_above alone (p ++ q) d (still_below alone p q h)
+-- below an ignored folder its rule decides
+pub ignored_below : (alone : Alone) (p q : List ℕ) (is_folder : Bool) (o : Option DecidingRule) → is_some o ≡ true → ignored_above alone p ≡ o → o ≡ deciding Git alone (p ++ q) is_folder
+ignored_below alone p q d o is h = ignored_by alone (p ++ q) d o is (still_below alone p q o is h)
 
-pub not_below_ignored : (alone : List ℕ → Bool → Decision) (p : List ℕ) (is_folder : Bool) → is_below_ignored alone p ≡ false → alone p is_folder ≡ decision_below alone p is_folder
-unfolding decision_below
-not_below_ignored alone p d h = ap (λ (b : Bool). if b then Ignored else alone p d) (sym h)
+pub not_ignored : (alone : Alone) (path : List ℕ) (is_folder : Bool) → ignored_above alone path ≡ None → alone path is_folder ≡ deciding Git alone path is_folder
+unfolding deciding
+not_ignored alone path d h = ap (λ (e : Option DecidingRule). or_else e (alone path d)) (sym h)
+
+-- a rule that ignores still does
+ignoring_twice : (file line : ℕ) (b : Bool) → let r : DecidingRule = record { file = file; line = line; is_negated = b } in ignoring (ignoring (Some r)) ≡ ignoring (Some r)
+ignoring_twice file line true = refl
+ignoring_twice file line false = refl
+
+ignoring_again : (o : Option DecidingRule) → ignoring (ignoring o) ≡ ignoring o
+ignoring_again None = refl
+ignoring_again (Some r) = ignoring_twice r.file r.line r.is_negated
+
+ignoring_first : (alone : Alone) (fs : List (List ℕ)) → let about : List ℕ → Option DecidingRule = λ folder. ignoring (alone folder true) in ignoring (first_answer about fs) ≡ first_answer about fs
+ignoring_first alone [] = refl
+ignoring_first alone (f ∷ fs) = of (ignoring (alone f true)) (ignoring_again (alone f true)) (ignoring_first alone fs)
+  where
+    rest : Option DecidingRule
+    rest = first_answer (λ folder. ignoring (alone folder true)) fs
+
+    of : (o : Option DecidingRule) → ignoring o ≡ o → ignoring rest ≡ rest → ignoring (or_else o rest) ≡ or_else o rest
+    of None h below = below
+    of (Some r) h below = h
 
 -- the folder of a path is entered
-pub entered_ignored : (alone : List ℕ → Bool → Decision) (p : List ℕ) → ignores (decision_below alone p true) ≡ is_below_ignored alone (p ++ 47 ∷ [])
-unfolding decision_below
-entered_ignored alone p = of (is_below_ignored alone p) (alone p true) ∙ sym (below_more alone p 47)
+pub entered_ignored : (alone : Alone) (p : List ℕ) → ignoring (deciding Git alone p true) ≡ ignored_above alone (p ++ 47 ∷ [])
+unfolding deciding
+entered_ignored alone p = of (ignored_above alone p) (ignoring_first alone (folders_above p)) ∙ sym (below_more alone p 47)
   where
-    of : (b : Bool) (d : Decision) → ignores (if b then Ignored else d) ≡ (b || ignores d)
-    of true d = refl
-    of false d = refl
+    of : (o : Option DecidingRule) → ignoring o ≡ o → ignoring (or_else o (alone p true)) ≡ or_else o (ignoring (alone p true))
+    of None h = refl
+    of (Some r) h = h
 
 -- one byte of a path more, and no folder that ends there is ignored
-pub passed_byte : (alone : List ℕ → Bool → Decision) (path : List ℕ) (i : ℕ) → i < length path → is_below_ignored alone (take i path) ≡ false
-    → ignores (ending alone (take i path) (get_or path i 0)) ≡ false → is_below_ignored alone (take (i + 1) path) ≡ false
+pub passed_byte : (alone : Alone) (path : List ℕ) (i : ℕ) → i < length path → ignored_above alone (take i path) ≡ None
+    → ignoring (ending alone (take i path) (get_or path i 0)) ≡ None → ignored_above alone (take (i + 1) path) ≡ None
 passed_byte alone path i h before here =
-    ap (is_below_ignored alone) (take_more path i 0 h) ∙ below_more alone (take i path) (get_or path i 0) ∙ (λ k. before k || here k)
+    ap (ignored_above alone) (take_more path i 0 h) ∙ below_more alone (take i path) (get_or path i 0) ∙ (λ k. or_else (before k) (here k))
 
 -- a folder that ends at a byte of a path is ignored
-pub met_ignored : (alone : List ℕ → Bool → Decision) (path : List ℕ) (i : ℕ) → i < length path
-    → ignores (ending alone (take i path) (get_or path i 0)) ≡ true → true ≡ is_below_ignored alone path
-met_ignored alone path i h here = sym (
-    ap (is_below_ignored alone) (sym (take-append-drop (i + 1) path))
-    ∙ still_below alone (take (i + 1) path) (drop (i + 1) path)
-    (ap (is_below_ignored alone) (take_more path i 0 h) ∙ below_more alone (take i path) (get_or path i 0) ∙ ap (λ (b : Bool). is_below_ignored alone (take i path) || b) here ∙ or_true (is_below_ignored alone (take i path))))
-  where
-    or_true : (b : Bool) → (b || true) ≡ true
-    or_true true = refl
-    or_true false = refl
-
--- ---- the last decision
-
-or_else_nothing : (d : Decision) → or_else d Undecided ≡ d
-or_else_nothing Undecided = refl
-or_else_nothing Ignored = refl
-or_else_nothing Kept = refl
-
-or_else_grouped : (a b c : Decision) → or_else (or_else a b) c ≡ or_else a (or_else b c)
-or_else_grouped Undecided b c = refl
-or_else_grouped Ignored b c = refl
-or_else_grouped Kept b c = refl
-
-pub or_else_decided : (d e : Decision) → (d ≡ Undecided → ⊥) → or_else d e ≡ d
-or_else_decided Undecided e n = absurd (n refl)
-or_else_decided Ignored e n = refl
-or_else_decided Kept e n = refl
-
-pub one_more_decided : {X : Type 0} (about : X → Decision) (xs : List X) (x : X) → last_decision about (xs ++ x ∷ []) ≡ or_else (about x) (last_decision about xs)
-one_more_decided about [] x = sym (or_else_nothing (about x))
-one_more_decided about (y ∷ ys) x =
-    ap (λ (e : Decision). or_else e (about y)) (one_more_decided about ys x) ∙ or_else_grouped (about x) (last_decision about ys) (about y)
+pub met_ignored : (alone : Alone) (path : List ℕ) (is_folder : Bool) (i : ℕ) (o : Option DecidingRule) → i < length path → ignored_above alone (take i path) ≡ None
+    → o ≡ ignoring (ending alone (take i path) (get_or path i 0)) → is_some o ≡ true → o ≡ deciding Git alone path is_folder
+met_ignored alone path d i o h before here is =
+    ignored_below alone (take (i + 1) path) (drop (i + 1) path) d o is
+    (ap (ignored_above alone) (take_more path i 0 h) ∙ below_more alone (take i path) (get_or path i 0) ∙ (λ k. or_else (before k) (sym here k)))
+    ∙ ap (λ (p : List ℕ). deciding Git alone p d) (take-append-drop (i + 1) path)
 
 -- ---- the nearest decision
 
--- the decision about the nearest folder above a path that has one
-abbrev pub decision_above : (List ℕ → Bool → Decision) → List ℕ → Decision
-decision_above alone path = last_decision (λ folder. alone folder true) (folders_above path)
+-- the rule about the nearest folder above a path that has one
+abbrev pub rule_above : (List ℕ → Bool → Option DecidingRule) → List ℕ → Option DecidingRule
+rule_above alone path = last_answer (λ folder. alone folder true) (folders_above path)
 
-above_more_byte : (alone : List ℕ → Bool → Decision) (p : List ℕ) (c : ℕ) → decision_above alone (p ++ c ∷ []) ≡ or_else (ending alone p c) (decision_above alone p)
-above_more_byte alone p c = ap (last_decision about) (folders_more p c) ∙ of (c == 47)
+above_more_byte : (alone : Alone) (p : List ℕ) (c : ℕ) → rule_above alone (p ++ c ∷ []) ≡ or_else (ending alone p c) (rule_above alone p)
+above_more_byte alone p c = ap (last_answer about) (folders_more p c) ∙ of (c == 47)
   where
-    about : List ℕ → Decision
+    about : List ℕ → Option DecidingRule
     about = λ folder. alone folder true
 
-    of : (b : Bool) → last_decision about (folders_above p ++ (if b then p ∷ [] else [])) ≡ or_else (if b then alone p true else Undecided) (decision_above alone p)
-    of true = one_more_decided about (folders_above p) p
-    of false = ap (last_decision about) (append-nil (folders_above p))
+    of : (b : Bool) → last_answer about (folders_above p ++ (if b then p ∷ [] else [])) ≡ or_else (if b then alone p true else None) (rule_above alone p)
+    of true = last_answer_more about (folders_above p) p
+    of false = ap (last_answer about) (append-nil (folders_above p))
 
--- the path has a decision
-pub nearest_itself : (alone : List ℕ → Bool → Decision) (path : List ℕ) (is_folder : Bool) (d : Decision) → d ≡ alone path is_folder → (d ≡ Undecided → ⊥)
-    → d ≡ nearest_decision alone path is_folder
-unfolding nearest_decision
-nearest_itself alone path f d is decided = sym (ap (λ (e : Decision). or_else e (decision_above alone path)) (sym is) ∙ or_else_decided d (decision_above alone path) decided)
-
--- it has none
-pub nearest_above : (alone : List ℕ → Bool → Decision) (path : List ℕ) (is_folder : Bool) (d : Decision) → d ≡ alone path is_folder → d ≡ Undecided
-    → decision_above alone path ≡ nearest_decision alone path is_folder
-unfolding nearest_decision
-nearest_above alone path f d is none = ap (λ (e : Decision). or_else e (decision_above alone path)) (sym none ∙ is)
-
--- of the folders above a path, the nearest that was not asked yet has a decision
-pub folder_decides : (alone : List ℕ → Bool → Decision) (path : List ℕ) (i : ℕ) (d all : Decision) → i < length path → d ≡ ending alone (take i path) (get_or path i 0)
-    → (d ≡ Undecided → ⊥) → decision_above alone (take (i + 1) path) ≡ all → d ≡ all
-folder_decides alone path i d all h is decided rest =
-    sym (sym rest ∙ ap (decision_above alone) (take_more path i 0 h) ∙ above_more_byte alone (take i path) (get_or path i 0)
-    ∙ ap (λ (e : Decision). or_else e (decision_above alone (take i path))) (sym is) ∙ or_else_decided d (decision_above alone (take i path)) decided)
+-- the path has a rule
+pub nearest_itself : (alone : Alone) (path : List ℕ) (is_folder : Bool) (o : Option DecidingRule) → o ≡ alone path is_folder → is_some o ≡ true → o ≡ deciding Nearest alone path is_folder
+unfolding deciding
+nearest_itself alone path f o is some = sym (ap (λ (e : Option DecidingRule). or_else e (rule_above alone path)) (sym is) ∙ or_else_some o (rule_above alone path) some)
 
 -- it has none
-pub folder_undecided : (alone : List ℕ → Bool → Decision) (path : List ℕ) (i : ℕ) (d all : Decision) → i < length path → d ≡ ending alone (take i path) (get_or path i 0)
-    → d ≡ Undecided → decision_above alone (take (i + 1) path) ≡ all → decision_above alone (take i path) ≡ all
-folder_undecided alone path i d all h is none rest =
-    ap (λ (e : Decision). or_else e (decision_above alone (take i path))) (sym none ∙ is)
-    ∙ sym (above_more_byte alone (take i path) (get_or path i 0)) ∙ ap (decision_above alone) (sym (take_more path i 0 h)) ∙ rest
+pub nearest_above : (alone : Alone) (path : List ℕ) (is_folder : Bool) (o : Option DecidingRule) → o ≡ alone path is_folder → o ≡ None
+    → rule_above alone path ≡ deciding Nearest alone path is_folder
+unfolding deciding
+nearest_above alone path f o is none = ap (λ (e : Option DecidingRule). or_else e (rule_above alone path)) (sym none ∙ is)
+
+-- of the folders above a path, the nearest that was not asked yet has a rule
+pub folder_decides : (alone : Alone) (path : List ℕ) (i : ℕ) (o all : Option DecidingRule) → i < length path → o ≡ ending alone (take i path) (get_or path i 0)
+    → is_some o ≡ true → rule_above alone (take (i + 1) path) ≡ all → o ≡ all
+folder_decides alone path i o all h is some rest =
+    sym (sym rest ∙ ap (rule_above alone) (take_more path i 0 h) ∙ above_more_byte alone (take i path) (get_or path i 0)
+    ∙ ap (λ (e : Option DecidingRule). or_else e (rule_above alone (take i path))) (sym is) ∙ or_else_some o (rule_above alone (take i path)) some)
+
+-- it has none
+pub folder_undecided : (alone : Alone) (path : List ℕ) (i : ℕ) (o all : Option DecidingRule) → i < length path → o ≡ ending alone (take i path) (get_or path i 0)
+    → o ≡ None → rule_above alone (take (i + 1) path) ≡ all → rule_above alone (take i path) ≡ all
+folder_undecided alone path i o all h is none rest =
+    ap (λ (e : Option DecidingRule). or_else e (rule_above alone (take i path))) (sym none ∙ is)
+    ∙ sym (above_more_byte alone (take i path) (get_or path i 0)) ∙ ap (rule_above alone) (sym (take_more path i 0 h)) ∙ rest
+
+-- ---- the path alone
+
+pub itself_alone : (alone : Alone) (path : List ℕ) (is_folder : Bool) → alone path is_folder ≡ deciding PathAlone alone path is_folder
+unfolding deciding
+itself_alone alone path d = refl

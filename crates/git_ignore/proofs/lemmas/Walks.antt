@@ -1,13 +1,15 @@
 -- The steps of a walk: its folders, and what is stored of them.
 use Rattle.std.proofs.Common.{◌≡◌, ℕ, List, [], ◌∷◌, ◌++◌, length, take, drop, Bool, true, refl, ap, sym, subst, ◌∙◌, append_assoc}
-use Rattle.std.specs.Prelude.{map, reverse}
+use Rattle.std.specs.Prelude.{map, reverse, Option}
 use Rattle.std.proofs.lemmas.List.{drop-append-le, length-map, map-append, reverse-append, take-append-drop, take-append-le, take-map}
 use Rattle.std.proofs.lemmas.List.Elements.{All-append, All-take}
 use Rattle.std.proofs.Math.Seq.{drop-length, take-append_seam, take-length}
-use Rattle.git_ignore.specs.Folders.{IgnoreFile, files_decision}
-use Rattle.git_ignore.specs.TwoRules.{ignores, is_below_ignored, decision_below}
+use Rattle.git_ignore.specs.Folders.{IgnoreFile, files_rule}
+use Rattle.git_ignore.specs.TwoRules.{deciding, ignored_above, ignoring}
 use Rattle.git_ignore.specs.RulesValue.{FitsAsBefore, FitsRules, ScratchValue}
 use Rattle.git_ignore.specs.StackValue.{StackValue, entered, left, stack_files, with_file}
+use Rattle.git_ignore.specs.declared.decision.DecideBy.TheVariants.{Git}
+use Rattle.git_ignore.specs.declared.decision.DecidingRule.{DecidingRule}
 use Rattle.git_ignore.specs.declared.folder_rules.FolderRules.{FolderRules}
 use Rattle.git_ignore.specs.declared.stack.FolderLevel.{FolderLevel}
 use Rattle.git_ignore.specs.inner.Stacks.{AreIn, AreInFolders, AreLevels, FitAll, above_of, bytes_of, file_of, files_of, here_of}
@@ -32,9 +34,13 @@ walk_files c folder files (l ∷ ls) (h, hs) =
     (λ i. walk_files c (take l.folder folder) (take l.files files) ls hs i ++ placed_files c folder (drop l.files files) h i) ∙ take-append-drop l.files files
 
 -- the files and the path of a walk are those that are stored
-pub stored_files : (c : Bool) (folder : List ℕ) (b : Bool) (files : List FolderRules) (levels : List FolderLevel) (scratch : ScratchValue) (v : StackValue)
+pub stored_files : (c : Bool) (folder : List ℕ) (b : Option DecidingRule) (files : List FolderRules) (levels : List FolderLevel) (scratch : ScratchValue) (v : StackValue)
     → IsStack c folder b files levels scratch → stack_value c folder files levels ≡ v → files_of files ≡ stack_files v
 stored_files c folder b files levels scratch v h seen = sym (walk_files c folder (files_of files) (reverse levels) h.placed) ∙ ap stack_files seen
+
+pub stored_count : (c : Bool) (folder : List ℕ) (b : Option DecidingRule) (files : List FolderRules) (levels : List FolderLevel) (scratch : ScratchValue) (v : StackValue)
+    → IsStack c folder b files levels scratch → stack_value c folder files levels ≡ v → length (stack_files v) ≡ length files
+stored_count c folder b files levels scratch v h seen = ap length (sym (stored_files c folder b files levels scratch v h seen)) ∙ length-map files file_of
 
 pub stored_path : (c : Bool) (folder : List ℕ) (files : List FolderRules) (levels : List FolderLevel) (v : StackValue) → stack_value c folder files levels ≡ v → folder ≡ v.here.path
 stored_path c folder files levels v seen = sym (here_path folder (files_of files) (reverse levels)) ∙ ap (λ (v : StackValue). v.here.path) seen
@@ -75,7 +81,7 @@ value_added c folder files f (l ∷ ls) (level, levels) =
 one_reversed : (ls : List FolderLevel) (l : FolderLevel) → reverse (ls ++ l ∷ []) ≡ l ∷ reverse ls
 one_reversed ls l = reverse-append ls (l ∷ [])
 
-pub file_added : (c : Bool) (folder shown bytes : List ℕ) (b : Bool) (files all : List FolderRules) (levels : List FolderLevel) (old new : ScratchValue) (r : FolderRules)
+pub file_added : (c : Bool) (folder shown bytes : List ℕ) (b : Option DecidingRule) (files all : List FolderRules) (levels : List FolderLevel) (old new : ScratchValue) (r : FolderRules)
     → IsStack c folder b files levels old → all ≡ files ++ r ∷ [] → file_of r ≡ record { folder = shown; bytes = bytes; ignore_case = c } → shown ≡ folder
     → FitsAsBefore old new → FitsRules new r.rules → IsStack c folder b all levels new
 file_added c folder shown bytes b files all levels old new r h put is same before fits =
@@ -84,15 +90,15 @@ file_added c folder shown bytes b files all levels old new r h put is same befor
     let more : files_of all ≡ files_of files ++ file_of r ∷ [] = ap files_of put ∙ map-append file_of files (r ∷ []) in
     record {
       ignored = h.ignored
-          ∙ sym (subst (λ (p : List ℕ). is_below_ignored (files_decision (files_of files ++ file_of r ∷ [])) p ≡ is_below_ignored (files_decision (files_of files)) p) place (added_kept (files_of files) (file_of r)))
-          ∙ ap (λ (fs : List IgnoreFile). is_below_ignored (files_decision fs) folder) (sym more);
+          ∙ sym (subst (λ (p : List ℕ). ignored_above (files_rule (files_of files ++ file_of r ∷ [])) p ≡ ignored_above (files_rule (files_of files)) p) place (added_kept (files_of files) (file_of r)))
+          ∙ ap (λ (fs : List IgnoreFile). ignored_above (files_rule fs) folder) (sym more);
       above = subst (λ (fs : List IgnoreFile). AreLevels folder fs (reverse levels)) (sym more) (levels_kept folder (files_of files) (file_of r ∷ []) (reverse levels) h.above);
       placed = subst (λ (fs : List IgnoreFile). AreInFolders c folder fs (reverse levels)) (sym more) (placed_more c folder (files_of files) (file_of r) (reverse levels) h.above h.placed in_folder);
       fits = subst (λ (fs : List FolderRules). FitAll new fs) (sym put)
           (All-append (λ (f : FolderRules). FitsRules new f.rules) files (r ∷ []) (fit_still old new files before h.fits) (fit_one new r fits));
     }
 
-pub stack_added : (c : Bool) (folder shown bytes : List ℕ) (b : Bool) (files all : List FolderRules) (levels : List FolderLevel) (old : ScratchValue) (r : FolderRules)
+pub stack_added : (c : Bool) (folder shown bytes : List ℕ) (b : Option DecidingRule) (files all : List FolderRules) (levels : List FolderLevel) (old : ScratchValue) (r : FolderRules)
     → IsStack c folder b files levels old → all ≡ files ++ r ∷ [] → file_of r ≡ record { folder = shown; bytes = bytes; ignore_case = c }
     → stack_value c folder all levels ≡ with_file (stack_value c folder files levels) bytes
 stack_added c folder shown bytes b files all levels old r h put is =
@@ -126,15 +132,15 @@ module _ (c : Bool) (folder more : List ℕ) (files : List IgnoreFile) (l : Fold
     above = here_of (same_folder i) (same_files i) ls ∷ above_of (same_folder i) (same_files i) ls;
   }
 
-pub folder_entered : (c : Bool) (folder name longer_folder : List ℕ) (b now : Bool) (files : List FolderRules) (levels all : List FolderLevel) (scratch : ScratchValue) (l : FolderLevel)
+pub folder_entered : (c : Bool) (folder name longer_folder : List ℕ) (b now : Option DecidingRule) (files : List FolderRules) (levels all : List FolderLevel) (scratch : ScratchValue) (l : FolderLevel)
     → IsStack c folder b files levels scratch → longer_folder ≡ folder ++ name ++ 47 ∷ [] → all ≡ levels ++ l ∷ []
-    → l.folder ≡ length folder → l.files ≡ length files → l.is_ignored ≡ b → now ≡ ignores (decision_below (files_decision (files_of files)) (folder ++ name) true)
+    → l.folder ≡ length folder → l.files ≡ length files → l.ignored_by ≡ b → now ≡ ignoring (deciding Git (files_rule (files_of files)) (folder ++ name) true)
     → IsStack c longer_folder now files all scratch
 folder_entered c folder name longer_folder b now files levels all scratch l h put pushed e n i is =
     let whole : longer_folder ≡ folder ++ (name ++ 47 ∷ []) = put ∙ append_assoc folder name (47 ∷ []) in
     let counted = n ∙ sym (length-map files file_of) in
     record {
-      ignored = is ∙ entered_ignored (files_decision (files_of files)) (folder ++ name) ∙ ap (is_below_ignored (files_decision (files_of files))) (sym put);
+      ignored = is ∙ entered_ignored (files_rule (files_of files)) (folder ++ name) ∙ ap (ignored_above (files_rule (files_of files))) (sym put);
       above = subst (λ (ls : List FolderLevel). AreLevels longer_folder (files_of files) ls) (sym (ap reverse pushed ∙ one_reversed levels l))
           (subst (λ (p : List ℕ). AreLevels p (files_of files) (l ∷ reverse levels)) (sym whole)
           (level_pushed folder (name ++ 47 ∷ []) (files_of files) l (reverse levels) e counted (i ∙ h.ignored) h.above));
@@ -159,15 +165,15 @@ stack_entered c folder name longer_folder files levels all l put pushed e n =
 
 -- ---- a folder is left
 
-pub folder_left : (c : Bool) (folder shorter_folder : List ℕ) (b : Bool) (files fewer : List FolderRules) (levels rest : List FolderLevel) (scratch : ScratchValue) (l : FolderLevel)
+pub folder_left : (c : Bool) (folder shorter_folder : List ℕ) (b : Option DecidingRule) (files fewer : List FolderRules) (levels rest : List FolderLevel) (scratch : ScratchValue) (l : FolderLevel)
     → IsStack c folder b files levels scratch → levels ≡ rest ++ l ∷ [] → shorter_folder ≡ take l.folder folder → fewer ≡ take l.files files
-    → IsStack c shorter_folder l.is_ignored fewer rest scratch
+    → IsStack c shorter_folder l.ignored_by fewer rest scratch
 folder_left c folder shorter_folder b files fewer levels rest scratch l h popped cut cut_files =
     let all = subst (λ (ls : List FolderLevel). AreLevels folder (files_of files) ls) (ap reverse popped ∙ one_reversed rest l) h.above in
     let in_folders = subst (λ (ls : List FolderLevel). AreInFolders c folder (files_of files) ls) (ap reverse popped ∙ one_reversed rest l) h.placed in
     let few : files_of fewer ≡ take l.files (files_of files) = ap files_of cut_files ∙ sym (take-map file_of l.files files) in
     record {
-      ignored = all.0.ignored ∙ (λ k. is_below_ignored (files_decision (sym few k)) (sym cut k));
+      ignored = all.0.ignored ∙ (λ k. ignored_above (files_rule (sym few k)) (sym cut k));
       above = subst (λ (fs : List IgnoreFile). AreLevels shorter_folder fs (reverse rest)) (sym few) (subst (λ (p : List ℕ). AreLevels p (take l.files (files_of files)) (reverse rest)) (sym cut) all.1);
       placed = subst (λ (fs : List IgnoreFile). AreInFolders c shorter_folder fs (reverse rest)) (sym few) (subst (λ (p : List ℕ). AreInFolders c p (take l.files (files_of files)) (reverse rest)) (sym cut) in_folders.1);
       fits = subst (λ (fs : List FolderRules). FitAll scratch fs) (sym cut_files) (All-take (λ (f : FolderRules). FitsRules scratch f.rules) l.files files h.fits);

@@ -7,8 +7,7 @@ use Rattle.ignore_pattern.specs.Automata.{IsAutomatonOf}
 use Rattle.ignore_pattern.specs.Patterns.{Pattern}
 use Rattle.git_ignore.specs.Rules.{Rule}
 use Rattle.git_ignore.specs.RulesValue.{RulesValue, ScratchValue, FitsRules}
-use Rattle.git_ignore.specs.declared.decision.Decision.{Decision}
-use Rattle.git_ignore.specs.declared.decision.Decision.TheVariants.{Ignored, Kept, Undecided}
+use Rattle.git_ignore.specs.declared.decision.DecidingRule.{DecidingRule}
 use Rattle.git_ignore.specs.declared.entry.RuleEntry.{RuleEntry}
 
 -- ---- entries
@@ -26,15 +25,10 @@ abbrev pub entry_of_rule : Option Rule → Option RuleEntry
 entry_of_rule None = None
 entry_of_rule (Some rule) = Some (entry_of rule)
 
--- the decision of the last entry that applies to a path
-abbrev pub decision_of : Option RuleEntry → Decision
-decision_of None = Undecided
-decision_of (Some e) = if e.is_negated then Kept else Ignored
-
--- the number of the line of an entry
-abbrev pub line_of_entry : Option RuleEntry → Option ℕ
-line_of_entry None = None
-line_of_entry (Some e) = Some e.line
+-- what is told of an entry of the file with this index
+abbrev pub told_of : ℕ → Option RuleEntry → Option DecidingRule
+told_of file None = None
+told_of file (Some e) = Some (record { file = file; line = e.line; is_negated = e.is_negated })
 
 -- the entry at an index that is found, if it is for paths of this kind, and otherwise the entry before
 abbrev pub chosen : Bool → Option RuleEntry → Option RuleEntry → Option RuleEntry

@@ -1,9 +1,10 @@
 -- A walk by its stored form. No contract of the crate's public calls cites this.
-use Rattle.std.specs.Prelude.{◌≡◌, ℕ, Bool, List, reverse}
+use Rattle.std.specs.Prelude.{◌≡◌, ℕ, Bool, List, Option, reverse}
 use Rattle.git_ignore.specs.RulesValue.{ScratchValue}
-use Rattle.git_ignore.specs.Folders.{IgnoreFile, files_decision}
-use Rattle.git_ignore.specs.TwoRules.{is_below_ignored}
+use Rattle.git_ignore.specs.Folders.{IgnoreFile, files_rule}
+use Rattle.git_ignore.specs.TwoRules.{ignored_above}
 use Rattle.git_ignore.specs.StackValue.{StackValue}
+use Rattle.git_ignore.specs.declared.decision.DecidingRule.{DecidingRule}
 use Rattle.git_ignore.specs.declared.folder_rules.FolderRules.{FolderRules}
 use Rattle.git_ignore.specs.declared.stack.FolderLevel.{FolderLevel}
 use Rattle.git_ignore.specs.inner.Stacks.{AreInFolders, AreLevels, FitAll, above_of, files_of, here_of}
@@ -15,8 +16,8 @@ walk_of ignore_case folder files levels = record { ignore_case = ignore_case; he
 abbrev pub stack_value : Bool → List ℕ → List FolderRules → List FolderLevel → StackValue
 stack_value ignore_case folder files levels = walk_of ignore_case folder (files_of files) (reverse levels)
 
-pub record IsStack (ignore_case : Bool) (folder : List ℕ) (is_ignored : Bool) (files : List FolderRules) (levels : List FolderLevel) (scratch : ScratchValue) : Type 0 where
-  pub ignored : is_ignored ≡ is_below_ignored (files_decision (files_of files)) folder
+pub record IsStack (ignore_case : Bool) (folder : List ℕ) (ignored_by : Option DecidingRule) (files : List FolderRules) (levels : List FolderLevel) (scratch : ScratchValue) : Type 0 where
+  pub ignored : ignored_by ≡ ignored_above (files_rule (files_of files)) folder
   pub above : AreLevels folder (files_of files) (reverse levels)
   pub placed : AreInFolders ignore_case folder (files_of files) (reverse levels)
   pub fits : FitAll scratch files

@@ -1,7 +1,7 @@
 -- The stored form of a walk. No contract of the crate's public calls cites this.
 use Rattle.std.specs.Prelude.{◌≡◌, ◌≤◌, ℕ, Bool, List, [], ◌∷◌, map, length, take, drop, All}
-use Rattle.git_ignore.specs.Folders.{IgnoreFile, files_decision}
-use Rattle.git_ignore.specs.TwoRules.{is_below_ignored}
+use Rattle.git_ignore.specs.Folders.{IgnoreFile, files_rule}
+use Rattle.git_ignore.specs.TwoRules.{ignored_above}
 use Rattle.git_ignore.specs.RulesValue.{FitsRules, ScratchValue}
 use Rattle.git_ignore.specs.StackValue.{OpenFolder}
 use Rattle.git_ignore.specs.declared.folder_rules.FolderRules.{FolderRules}
@@ -18,11 +18,11 @@ files_of files = map file_of files
 abbrev pub FitAll : ScratchValue → List FolderRules → Type 0
 FitAll scratch files = All (λ (f : FolderRules). FitsRules scratch f.rules) files
 
--- The level is of a folder above this path's folder, and it is marked as ignored exactly if it is.
+-- The level is of a folder above this path's folder, and it has the rule that ignores it or a folder above it, if any does.
 pub record IsLevel (path : List ℕ) (known : List IgnoreFile) (l : FolderLevel) : Type 0 where
   pub folder : l.folder ≤ length path
   pub files : l.files ≤ length known
-  pub ignored : l.is_ignored ≡ is_below_ignored (files_decision (take l.files known)) (take l.folder path)
+  pub ignored : l.ignored_by ≡ ignored_above (files_rule (take l.files known)) (take l.folder path)
 
 -- the levels above a folder, from the nearest up
 abbrev pub AreLevels : List ℕ → List IgnoreFile → List FolderLevel → Type 0

@@ -5,7 +5,7 @@ use Rattle.git_ignore.proofs.stack.IgnoreStack.leave.Goals as goal
 
 pub invariant_of-self : goal.invariant_of-self
 invariant_of-self c =
-    folder_left c.self.inside.ignore_case c.self.inside.folder.items c.truncate.new.self.items c.self.inside.is_ignored c.self.inside.files.items c.truncate-in-Some.new.self.items c.self.inside.levels.items c.pop.new.self.items c.self.inside.scratch c.in-Some.level
+    folder_left c.self.inside.ignore_case c.self.inside.folder.items c.truncate.new.self.items c.self.inside.ignored_by c.self.inside.files.items c.truncate-in-Some.new.self.items c.self.inside.levels.items c.pop.new.self.items c.self.inside.scratch c.in-Some.level
     c.self.invariant c.in-Some.ensures.items c.truncate.ensures.items c.truncate-in-Some.ensures.items
 
 pub returns-in-Some : goal.returns-in-Some

@@ -1,11 +1,11 @@
-use Rattle.std.proofs.Common.{◌≡◌, arith, subst, sym}
+use Rattle.std.proofs.Common.{◌∙◌, ap, arith, subst, sym}
 use Rattle.bit_sets.proofs.lemmas.Texts.{all_bytes}
 use Rattle.bit_sets.specs.Indexes.{has_index}
-use Rattle.git_ignore.specs.Rules.{last_rule, rules_of}
+use Rattle.git_ignore.specs.Rules.{deciding_rule, rules_of}
 use Rattle.git_ignore.specs.RulesValue.{FitsRules, ScratchValue}
-use Rattle.git_ignore.specs.inner.Entries.{StoredValue, entry_of_rule, patterns_of, rules_value}
-use Rattle.git_ignore.proofs.lemmas.Entries.{entry_count, found_is_last, found_matches, from_ok}
-use Rattle.git_ignore.proofs.stored.StoredRules.last_entry.Goals as goal
+use Rattle.git_ignore.specs.inner.Entries.{StoredValue, patterns_of, rules_value}
+use Rattle.git_ignore.proofs.lemmas.Entries.{decided_by, entry_count, found_is_last, found_matches, from_ok}
+use Rattle.git_ignore.proofs.stored.StoredRules.deciding_rule.Goals as goal
 
 pub find-requires-clause-count : goal.find-requires-clause-count
 find-requires-clause-count c =
@@ -15,8 +15,8 @@ find-requires-clause-count c =
     let fits = subst (λ (v : StoredValue). FitsRules (record { states = s.states; rules = s.rules }) (rules_value v)) (sym c.self.view_is) at_scratch in
     omega (arith, entry_count r.ignore_case (rules_of r.file.items) r.automaton r.entries.items c.self.invariant, fits.for_rules, c.scratch.invariant.1, c.clear.ensures.room)
 
-pub returns-clause-entry : goal.returns-clause-entry
-returns-clause-entry c =
+pub returns-clause-rule : goal.returns-clause-rule
+returns-clause-rule c =
     let r = c.self.inside in
     let s = c.scratch.inside in
     let rules = rules_of r.file.items in
@@ -26,6 +26,8 @@ returns-clause-entry c =
     let adds = from_ok c.find.result (c.find.ensures.memory (omega (arith, fits.for_states, c.scratch.invariant.0))) c.find.ensures.reached in
     let matched = found_matches r.ignore_case (patterns_of rules) r.automaton path c.clear.new.self c.find.new.found c.self.invariant.finds_patterns
     (all_bytes path (λ i. (c.type_inv.path i).fits)) c.clear.ensures.none adds in
-    subst (λ (v : StoredValue). c.last_entry_for.result ≡ entry_of_rule (last_rule v.ignore_case path c.args.is_folder (rules_of v.file))) c.self.view_is
-    (found_is_last r.ignore_case path c.args.is_folder (has_index c.find.new.found) rules r.entries.items c.deref.result.now c.last_entry_for.result c.self.invariant.same_entries c.deref.ensures.value matched
-    c.last_entry_for.ensures)
+    c.told_of.ensures
+    ∙ decided_by r.ignore_case r.file.items path c.args.file c.args.is_folder c.last_entry_for-last.result
+    (found_is_last r.ignore_case path c.args.is_folder (has_index c.find.new.found) rules r.entries.items c.deref.result.now c.last_entry_for-last.result c.self.invariant.same_entries c.deref.ensures.value matched
+    c.last_entry_for-last.ensures)
+    ∙ ap (λ (v : StoredValue). deciding_rule v.ignore_case v.file c.args.file path c.args.is_folder) c.self.view_is

@@ -1,0 +1,35 @@
+use Rattle.std.proofs.Common.{◌≡◌, ◌+◌, ◌-◌, take, refl, ap, sym, ◌∙◌, arith}
+use Rattle.std.proofs.Math.Seq.{take-length}
+use Rattle.git_ignore.proofs.lemmas.TwoRules.{folder_decides, folder_undecided, nearest_above, nearest_itself, none_if_not_some, rule_above}
+use Rattle.git_ignore.proofs.two_rules.nearest.Goals as goal
+
+pub returns-then-is_some-clause-rule : goal.returns-then-is_some-clause-rule
+returns-then-is_some-clause-rule g c =
+    nearest_itself (g.R.DecidesAlone.alone c.args.rules.now) c.args.path.now c.args.is_folder _ c.rule_alone-rule.ensures.rule
+    (sym c.is_some.ensures ∙ c.if-is_some.true)
+
+pub loop-end-init : goal.loop-end-init
+loop-end-init g c = record {
+  scratch = refl;
+  rest = ap (rule_above (g.R.DecidesAlone.alone c.args.rules.now)) (take-length c.args.path.now)
+      ∙ nearest_above (g.R.DecidesAlone.alone c.args.rules.now) c.args.path.now c.args.is_folder _ c.rule_alone-rule.ensures.rule (none_if_not_some c.rule_alone-rule.result (sym c.is_some.ensures ∙ c.if-is_some.false));
+}
+
+pub returns-then-is_some-2-clause-rule : goal.returns-then-is_some-2-clause-rule
+returns-then-is_some-2-clause-rule g c =
+    let l = c.loop-end in
+    let same : l.end ≡ (l.end - 1) + 1 = omega (arith, c.loop-end-test.true) in
+    folder_decides (g.R.DecidesAlone.alone c.args.rules.now) c.args.path.now (l.end - 1) c.folder_rule-rule.result _ (omega (arith, c.loop-end-test.true, l.auto.end)) c.folder_rule-rule.ensures.rule
+    (sym c.is_some-in-loop-end.ensures ∙ c.if-is_some-2.true)
+    (ap (λ (k : _). rule_above (g.R.DecidesAlone.alone c.args.rules.now) (take k c.args.path.now)) (sym same) ∙ l.invariant.rest)
+
+pub loop-end-preserved : goal.loop-end-preserved
+loop-end-preserved g c =
+    let l = c.loop-end in
+    let same : l.end ≡ (l.end - 1) + 1 = omega (arith, c.loop-end-test.true) in
+    record {
+      scratch = c.folder_rule-rule.ensures.scratch ∙ l.invariant.scratch;
+      rest = folder_undecided (g.R.DecidesAlone.alone c.args.rules.now) c.args.path.now (l.end - 1) c.folder_rule-rule.result _ (omega (arith, c.loop-end-test.true, l.auto.end)) c.folder_rule-rule.ensures.rule
+          (none_if_not_some c.folder_rule-rule.result (sym c.is_some-in-loop-end.ensures ∙ c.if-is_some-2.false))
+          (ap (λ (k : _). rule_above (g.R.DecidesAlone.alone c.args.rules.now) (take k c.args.path.now)) (sym same) ∙ l.invariant.rest);
+    }
