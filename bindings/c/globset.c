@@ -2,8 +2,8 @@
  * proved.
  *
  * It tests pointers for null, passes texts and objects on, and turns statuses into results. A pointer to a glob, a set,
- * a builder or a searcher is the address in the raw handle of the object. That address stays the same: globs and sets
- * are lent alone, and the calls on builders and searchers reach the object through the handle, which they do not write
+ * a builder, a searcher or an ignore is the address in the raw handle of the object. That address stays the same: globs
+ * and sets are lent alone, and the calls on builders, searchers and ignores reach the object through the handle, which they do not write
  * (`Owned::as_mut` in crates/globset_c). Only calls that take a work write a handle, so a matcher is a struct that
  * keeps the handles of its two objects. */
 #include "globset_raw.h"
@@ -35,7 +35,7 @@ const char *globset_status_text(int status) {
         "the error is none, so it says nothing",
         "a length or a count is larger than any array can be",
         "a search has more rows than its limit",
-        "there is no answer of this index",
+        "there is no answer or ignore file of this index",
     };
     static const int count = sizeof errors / sizeof *errors;
     if (status == 1) return "the answer is yes";
@@ -566,4 +566,89 @@ void globset_answers_free(globset_answers *answers) {
     globset_bytes path;
     globset_indexes indexes;
     if (answers != NULL && read_answer(answers, 0, &path, &indexes) != GLOBSET_WRONG_KIND) free_object(answers);
+}
+
+/* ---- Ignore files ---- */
+
+int globset_ignore_new(uint32_t options, globset_ignore **ignore) {
+    globset_owned made = own(NULL);
+    globset_status status;
+    if (ignore == NULL) return GLOBSET_ENULL;
+    status = globset_raw_ignore_new(options, &made);
+    *ignore = made.at;
+    return result_of(status);
+}
+
+int globset_ignore_add_file(globset_ignore *ignore, const char *file, size_t length) {
+    globset_owned owned = own(ignore);
+    struct bytes bytes;
+    int result = find_bytes(file, length, &bytes);
+    if (ignore == NULL) return GLOBSET_ENULL;
+    if (result != GLOBSET_OK) return result;
+    return result_of(globset_raw_ignore_add_file(&owned, bytes.at, bytes.length));
+}
+
+int globset_ignore_enter(globset_ignore *ignore, const char *name, size_t length) {
+    globset_owned owned = own(ignore);
+    struct bytes bytes;
+    int result = find_bytes(name, length, &bytes);
+    if (ignore == NULL) return GLOBSET_ENULL;
+    if (result != GLOBSET_OK) return result;
+    return result_of(globset_raw_ignore_enter(&owned, bytes.at, bytes.length));
+}
+
+int globset_ignore_leave(globset_ignore *ignore) {
+    globset_owned owned = own(ignore);
+    if (ignore == NULL) return GLOBSET_ENULL;
+    return result_of(globset_raw_ignore_leave(&owned));
+}
+
+int globset_ignore_is_ignored(globset_ignore *ignore, const char *path, size_t length, int is_directory, uint32_t by,
+                              globset_rule *rule) {
+    globset_owned owned = own(ignore);
+    globset_rule found = {0, 0};
+    struct bytes bytes;
+    globset_status status;
+    int result = find_bytes(path, length, &bytes);
+    if (rule != NULL) *rule = found;
+    if (ignore == NULL) return GLOBSET_ENULL;
+    if (result != GLOBSET_OK) return result;
+    status = globset_raw_ignore_decide(&owned, bytes.at, bytes.length, is_directory != 0, by, &found.file, &found.line);
+    if (rule != NULL) *rule = found;
+    return result_of(status);
+}
+
+int globset_ignore_decide_many(globset_ignore *ignore, const char *paths, size_t length, const size_t *end_offsets,
+                               size_t count, uint32_t by, uint8_t *answers) {
+    globset_owned owned = own(ignore);
+    struct bytes bytes;
+    int result = find_bytes(paths, length, &bytes);
+    if (ignore == NULL) return GLOBSET_ENULL;
+    if (result != GLOBSET_OK) return result;
+    if (is_too_many(count)) return GLOBSET_ELENGTH;
+    if (count > 0 && (end_offsets == NULL || answers == NULL)) return GLOBSET_ENULL;
+    if (end_offsets == NULL) end_offsets = no_items;
+    if (answers == NULL) answers = no_room;
+    return result_of(
+        globset_raw_ignore_decide_many(&owned, bytes.at, bytes.length, end_offsets, count, by, answers, count));
+}
+
+int globset_ignore_unread_lines(globset_ignore *ignore, size_t file, const size_t **lines, size_t *count) {
+    globset_owned owned = own(ignore);
+    globset_indexes found = {no_items, 0};
+    globset_status status;
+    if (lines != NULL) *lines = NULL;
+    if (count != NULL) *count = 0;
+    if (ignore == NULL || lines == NULL || count == NULL) return GLOBSET_ENULL;
+    status = globset_raw_ignore_unread_lines(&owned, file, &found);
+    if (status != GLOBSET_DONE) return result_of(status);
+    *lines = found.at;
+    *count = found.count;
+    return GLOBSET_OK;
+}
+
+void globset_ignore_free(globset_ignore *ignore) {
+    globset_owned owned = own(ignore);
+    globset_indexes lines = {no_items, 0};
+    if (ignore != NULL && globset_raw_ignore_unread_lines(&owned, 0, &lines) != GLOBSET_WRONG_KIND) free_object(ignore);
 }

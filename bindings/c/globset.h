@@ -7,19 +7,19 @@
  *
  * Objects. A glob is a text that was read, with its options. A set has many globs and is ready to match. A searcher is
  * a set with the memory that one thread needs to match, and a matcher is the same for one glob. A builder takes globs
- * one by one and makes a set of them. Answers are what a question about all paths found. Each object is made by a
- * function that writes a pointer to it, and freed once, by the `_free` of its kind, which does nothing with an object of
- * another kind. An object keeps what it needs of those that it was made of: they may be freed before it.
+ * one by one and makes a set of them. Answers are what a question about all paths found. An ignore is a walk with its
+ * ignore files. Each object is made by a function that writes a pointer to it, and freed once, by the `_free` of its
+ * kind, which does nothing with an object of another kind. An object keeps what it needs of those that it was made of: they may be freed before it.
  *
- * Results. A function whose name has `is_match`, `matches_all`, `can_match` or `has_path` answers a question: it returns
- * 1 for yes and 0 for no. Each other function with a result returns GLOBSET_OK, which is 0, if it did what it is for.
+ * Results. A function whose name has `is_match`, `matches_all`, `can_match`, `has_path` or `is_ignored` answers a
+ * question: it returns 1 for yes and 0 for no. Each other function with a result returns GLOBSET_OK, which is 0, if it did what it is for.
  * An error is below 0, and globset_status_text says what it means. A program compares an answer with 1, as in
  * `if (globset_set_is_match(..) == 1)`, since an error alone counts as true, and any other result with GLOBSET_OK. After
  * an error no object was made, and the pointer to it is null. Every object holds what it held before the call, and can
  * still be used.
  *
- * Null. Each `_free` accepts null and does nothing. Where `error`, `index`, `path` or `length` points to a result, it may
- * be null, and then the result is not written. Bytes and arrays may be null if they have no members. Any other null
+ * Null. Each `_free` accepts null and does nothing. Where `error`, `index`, `path`, `length` or `rule` points to a result,
+ * it may be null, and then the result is not written. Bytes and arrays may be null if they have no members. Any other null
  * pointer ends in GLOBSET_ENULL.
  *
  * Bytes. Texts and paths are bytes with a length, and may have NULs inside. The length GLOBSET_ZERO_TERMINATED stands
@@ -87,6 +87,7 @@ typedef struct globset_searcher globset_searcher;
 typedef struct globset_matcher globset_matcher;
 typedef struct globset_builder globset_builder;
 typedef struct globset_answers globset_answers;
+typedef struct globset_ignore globset_ignore;
 
 /* ---- Globs ---- */
 
@@ -122,7 +123,7 @@ enum {
     GLOBSET_ENONE = -9,    /* the error is none: its kind is none of those below */
     GLOBSET_ELENGTH = -10, /* a length, a size or a count is larger than any array can be, as -1 is */
     GLOBSET_ELIMIT = -11,  /* a search has more rows than its limit */
-    GLOBSET_EINDEX = -12   /* there is no answer of this index */
+    GLOBSET_EINDEX = -12   /* there is no answer, or no ignore file, of this index */
 };
 
 /* Returns what a result means, for people: "memory ran out" and the like. The text is static and never null. */
@@ -335,6 +336,89 @@ GLOBSET_CHECKED int globset_answers_indexes(globset_answers *answers, size_t ind
                                             size_t *count);
 
 void globset_answers_free(globset_answers *answers);
+
+/* ---- Ignore files ---- */
+
+/* An ignore decides about paths by ignore files, such as `.gitignore`, as git does. It is a walk through directories: it
+ * begins in the top directory, takes the ignore files of each directory that it enters, and forgets them as it leaves.
+ * git reads three kinds of files. Of the files of one directory the later one takes precedence, so a program adds, in the
+ * top directory, the file that core.excludesFile names, then `.git/info/exclude`, then `.gitignore`:
+ *
+ *     globset_ignore *ignore = NULL;
+ *     int result = globset_ignore_new(0, &ignore);
+ *     if (result == GLOBSET_OK) result = globset_ignore_add_file(ignore, "*.o\nout/\n", GLOBSET_ZERO_TERMINATED);
+ *     if (result == GLOBSET_OK) result = globset_ignore_enter(ignore, "src", GLOBSET_ZERO_TERMINATED);
+ *     if (result == GLOBSET_OK) result = globset_ignore_add_file(ignore, "!keep.o\n", GLOBSET_ZERO_TERMINATED);
+ *     if (result == GLOBSET_OK) result = globset_ignore_is_ignored(ignore, "a.o", 3, 0, GLOBSET_BY_GIT, NULL);
+ *
+ * The last result is 1, and that of `keep.o` would be 0. The calls open no files. A path is bytes with a `/` between
+ * components, and is relative to the directory that the walk is in. A line of a file with a pattern is a rule, which
+ * ignores the paths that it matches, or keeps them if it begins with `!`. Of several rules the one in the deepest
+ * directory decides, and of those the last. */
+
+/* The options of an ignore, as bits. */
+enum {
+    GLOBSET_IGNORE_CASE = 1 /* ASCII letters match in both cases, as with the setting core.ignoreCase of git */
+};
+
+/* What decides about a path. After the lines `/src` and `!/src/a` git ignores `src/a`, and the nearest decision keeps it;
+ * about `src/b`, which no rule matches, git and the nearest decision decide as about `src`, and the path alone does not. */
+enum {
+    GLOBSET_BY_GIT = 0,     /* as git: everything below an ignored directory is ignored */
+    GLOBSET_BY_NEAREST = 1, /* the path, or else the nearest directory above it about which a rule decides */
+    GLOBSET_BY_PATH = 2     /* the path alone: no directory above it counts */
+};
+
+/* What globset_ignore_decide_many finds out about a path. */
+enum { GLOBSET_UNDECIDED = 0, GLOBSET_IGNORED = 1, GLOBSET_KEPT = 2 };
+
+/* The rule that decides: the number of its line, from 1, and the index of its file among those that are there, from 0, in
+ * the order in which they were added. Both are 0 if no rule decides. No member is added in one interface. */
+typedef struct globset_rule {
+    size_t file;
+    size_t line;
+} globset_rule;
+
+/* Makes an ignore in its top directory, without files. GLOBSET_EOPTIONS, GLOBSET_ENOMEM. */
+GLOBSET_CHECKED int globset_ignore_new(uint32_t options, globset_ignore **ignore);
+
+/* Adds an ignore file of the directory that the walk is in, by its bytes, which are copied. It takes precedence over the
+ * files that are there. A line that git cannot read matches nothing, and is no error. Time and memory are linear in the
+ * file. GLOBSET_ENOMEM. */
+GLOBSET_CHECKED int globset_ignore_add_file(globset_ignore *ignore, const char *file, size_t length);
+
+/* Enters the directory of this name: one component, or several with a `/` between them. It decides about the directory as
+ * globset_ignore_is_ignored does by GLOBSET_BY_GIT. GLOBSET_ENOMEM. */
+GLOBSET_CHECKED int globset_ignore_enter(globset_ignore *ignore, const char *name, size_t length);
+
+/* Goes up to where the walk was before the last globset_ignore_enter, without the files that were added since. In the top
+ * directory it does nothing. It takes no memory. */
+GLOBSET_CHECKED int globset_ignore_leave(globset_ignore *ignore);
+
+/* Returns whether a rule ignores the path. `is_directory` is 0 if it is no directory. `rule` is the rule that decides: if
+ * the answer is 0 and the line is not 0, that rule keeps the path. After an error both members are 0. Time is a pass over
+ * the path for each file and, unless `by` is GLOBSET_BY_PATH, such passes for each directory that the path names: so it
+ * is less for the name of an entry of the directory that the walk is in. GLOBSET_EOPTIONS: `by` is none of those above.
+ * GLOBSET_ENOMEM: the ignore keeps the memory that it takes for later calls. */
+GLOBSET_CHECKED int globset_ignore_is_ignored(globset_ignore *ignore, const char *path, size_t length, int is_directory,
+                                              uint32_t by, globset_rule *rule);
+
+/* Decides about `count` paths, which are passed as to globset_searcher_is_match_many. A path that ends with `/` is of a
+ * directory, and is decided about without that `/`. GLOBSET_OK: answers[i] is GLOBSET_IGNORED if a rule ignores path
+ * number i, GLOBSET_KEPT if a rule keeps it, and GLOBSET_UNDECIDED if no rule decides. GLOBSET_EOPTIONS,
+ * GLOBSET_EOFFSETS and GLOBSET_ENOMEM, and then no answer was written: the call takes a byte for each path, and gives it
+ * back. Otherwise time and memory are those of globset_ignore_is_ignored. */
+GLOBSET_CHECKED int globset_ignore_decide_many(globset_ignore *ignore, const char *paths, size_t length,
+                                               const size_t *end_offsets, size_t count, uint32_t by, uint8_t *answers);
+
+/* Finds the lines of a file that git cannot read, such as `[a`, which match nothing. The file is that of an index as in
+ * globset_rule. GLOBSET_OK: `lines` points to the numbers of the lines, ascending, from 1, and `count` says how many they
+ * are. They may be read until the next call that the ignore is passed to. Blank lines and comments are not among them.
+ * GLOBSET_EINDEX: there is no such file, and then `lines` is null and `count` is 0. It takes no memory. */
+GLOBSET_CHECKED int globset_ignore_unread_lines(globset_ignore *ignore, size_t file, const size_t **lines,
+                                                size_t *count);
+
+void globset_ignore_free(globset_ignore *ignore);
 
 /* ---- Versions ---- */
 

@@ -3,11 +3,11 @@
  *
  * The functions are written in Rattle. Each has a contract that the checker proves: it says what the function returns
  * and leaves if its caller keeps the promises below. Parameters are pointers, lengths and structs of one pointer, and
- * no pointer is null. The bits of options, the kinds of errors, the domains, which match decides and the two numbers of
- * the version are those of globset.h.
+ * no pointer is null. The bits of options, the kinds of errors, the domains, which match decides, what decides about a
+ * path and the two numbers of the version are those of globset.h.
  *
- * Objects. A glob, a matcher, a builder, a set, a work, a searcher and answers are objects on the heap. A handle is a
- * struct of one pointer.
+ * Objects. A glob, a matcher, a builder, a set, a work, a searcher, answers and an ignore (a walk with its ignore files)
+ * are objects on the heap. A handle is a struct of one pointer.
  *
  *  - Who has an object *owns* it: `globset_owned`. An owned object is in one call at a time. It is freed once, by
  *    `globset_raw_free`, and its handle is not used after that. It may go to another thread, which then uses and frees
@@ -27,6 +27,7 @@
  *    may be used after the set was freed. It belongs to one thread at a time, and several threads make a searcher each.
  *    A question about one path takes no memory and cannot fail. A program that asks a set about many paths asks a
  *    searcher of it.
+ *  - An ignore belongs to one thread at a time.
  *
  * Texts and paths are bytes with a length. They need no NUL at the end and may have NULs inside. A path is any bytes.
  * The text of a glob has to be UTF-8, and the library tests that.
@@ -44,9 +45,10 @@
  *
  * What the library promises in every call: it reads and writes nothing else, it returns, it never ends the process, and
  * it keeps nothing of its arguments but what is said below. Running out of memory is the status GLOBSET_OUT_OF_MEMORY;
- * all objects then hold what they held before the call, but that a work may have grown, and can be used on. The status
+ * all objects then hold what they held before the call, but that a work or an ignore may have kept more memory for later
+ * calls, and can be used on. The status
  * GLOBSET_WRONG_KIND comes exactly if an object is of another kind than the call asks for, and all objects are then as
- * they were; where a call takes ends of paths or a domain, these are looked at first. After any status but GLOBSET_DONE,
+ * they were; where a call takes ends of paths, a domain or what decides, these are looked at first. After any status but GLOBSET_DONE,
  * GLOBSET_NO and GLOBSET_YES no new object was made, and each result that has no sentence of its own is as it was.
  */
 #ifndef GLOBSET_RAW_H
@@ -74,7 +76,7 @@ enum {
     GLOBSET_BAD_ENDS = 8,       /* an end of a path is below the one before it, or beyond the bytes, or has no answer */
     GLOBSET_TOO_SMALL = 9,      /* the text is longer than the room for it, or the indexes are more */
     GLOBSET_LIMIT_REACHED = 10, /* a search has more rows than its limit */
-    GLOBSET_BAD_INDEX = 11      /* there is no answer of this index */
+    GLOBSET_BAD_INDEX = 11      /* there is no answer, or no ignore file, of this index */
 };
 
 /* ---- Types ---- */
@@ -96,7 +98,7 @@ typedef struct globset_bytes {
     size_t count;
 } globset_bytes;
 
-/* Indexes that a work, a searcher or answers lend. Before a call that writes them they have to be valid: with the count
+/* Indexes that a work, a searcher or answers lend, and numbers of lines that an ignore lends. Before a call that writes them they have to be valid: with the count
  * 0 `at` is any address of a size_t. */
 typedef struct globset_indexes {
     const size_t *at;
@@ -306,6 +308,45 @@ globset_status globset_raw_unreachable(globset_lent *globs, size_t globs_len, ui
  * that the answers are passed to, globset_raw_free too. The caller writes nothing there. */
 globset_status globset_raw_answers_at(globset_owned *answers, size_t index, globset_bytes *path,
                                       globset_indexes *indexes);
+
+/* Makes an ignore: a walk in its top directory, without ignore files. The only bit of options is GLOBSET_IGNORE_CASE.
+ * GLOBSET_DONE, GLOBSET_UNKNOWN_OPTION, GLOBSET_OUT_OF_MEMORY. */
+globset_status globset_raw_ignore_new(uint32_t options, globset_owned *out);
+
+/* Adds an ignore file of the directory that the walk is in, by its bytes, which are copied. It takes precedence over those
+ * that are there. GLOBSET_DONE; GLOBSET_WRONG_KIND and GLOBSET_OUT_OF_MEMORY, and then nothing changed. */
+globset_status globset_raw_ignore_add_file(globset_owned *ignore, const uint8_t *file, size_t file_len);
+
+/* Goes down into the directory of this name: one component, or several with `/` between them. GLOBSET_DONE;
+ * GLOBSET_WRONG_KIND and GLOBSET_OUT_OF_MEMORY, and then nothing changed. */
+globset_status globset_raw_ignore_enter(globset_owned *ignore, const uint8_t *name, size_t name_len);
+
+/* Goes up to where the walk was before the last globset_raw_ignore_enter, without the files that were added since. In the
+ * top directory it does nothing. It takes no memory. GLOBSET_DONE, GLOBSET_WRONG_KIND. */
+globset_status globset_raw_ignore_leave(globset_owned *ignore);
+
+/* Whether the path, which is below the directory that the walk is in, is ignored, as `by` says. `is_directory` is 0 if it
+ * is no directory. GLOBSET_YES: a rule ignores it. GLOBSET_NO: a rule keeps it, or no rule decides. Then `*line` is the
+ * number of the line of the rule that decides, from 1, and 0 if none does; `*file` is the index of its file among those
+ * that are there, in the order in which they were added, and 0 if no rule decides. GLOBSET_UNKNOWN_OPTION: globset.h has
+ * no such `by`. GLOBSET_WRONG_KIND, GLOBSET_OUT_OF_MEMORY. */
+globset_status globset_raw_ignore_decide(globset_owned *ignore, const uint8_t *path, size_t path_len,
+                                         uint32_t is_directory, uint32_t by, size_t *file, size_t *line);
+
+/* Decides about many paths, as globset_raw_ignore_decide about one, with ends as at globset_raw_set_is_match_many. A path
+ * that ends with `/` is of a directory, and is decided about without that `/`. GLOBSET_DONE: answers[i] is 0 if no rule
+ * decides about path number i, 1 if a rule ignores it, and 2 if a rule keeps it. Otherwise no answer was written:
+ * GLOBSET_UNKNOWN_OPTION, which is looked at first, GLOBSET_BAD_ENDS, GLOBSET_WRONG_KIND, GLOBSET_OUT_OF_MEMORY: the call
+ * takes a byte for each path, and gives it back. */
+globset_status globset_raw_ignore_decide_many(globset_owned *ignore, const uint8_t *paths, size_t paths_len,
+                                              const size_t *ends, size_t ends_len, uint32_t by, uint8_t *answers,
+                                              size_t answers_len);
+
+/* Lends the numbers of the lines of a file that git cannot read, ascending, from 1. The file is that of an index as
+ * globset_raw_ignore_decide tells it. Blank lines and comments are not among them. It takes no memory. GLOBSET_DONE: they
+ * may be read until the next call that the ignore is passed to, globset_raw_free too. The caller writes nothing there.
+ * GLOBSET_BAD_INDEX, GLOBSET_WRONG_KIND: `lines` has the count 0. */
+globset_status globset_raw_ignore_unread_lines(globset_owned *ignore, size_t file, globset_indexes *lines);
 
 /* Frees an object of any kind. The caller owns it, it is lent to nobody, and what it lends is not read any more. */
 void globset_raw_free(globset_owned object);

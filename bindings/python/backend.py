@@ -24,7 +24,7 @@ ARCHIVE = f"{TOP}/crates/globset_c/out/libglobset_c.a"
 # What a source distribution has beside the module, the licences and the library.
 SOURCES = (
     *("pyproject.toml", "backend.py", "build_extension.py", "build_wheel.py", "README.md"),
-    *("globset/_extension.c", "globset/_relations.h"),
+    *("globset/_extension.c", "globset/_ignore.h", "globset/_relations.h"),
 )
 LIBRARY = ("libglobset.a", "libglobset.so", "globset.h", "globset_raw.h", "NOTICE")
 

@@ -25,7 +25,7 @@ import tempfile
 HERE = os.path.dirname(os.path.realpath(__file__))
 FLAGS = "-std=c11 -O2 -fPIC -shared -fvisibility=hidden -Wall -Wextra -Wconversion".split()
 # What the macros of the documentation begin with, for each class.
-CLASSES = {"GlobBase": "GLOB", "GlobSetBase": "SET"}
+CLASSES = {"GlobBase": "GLOB", "GlobSetBase": "SET", "IgnoreFiles": "IGNORE"}
 
 
 def include():

@@ -20,7 +20,10 @@ import zipfile
 
 HERE = os.path.dirname(os.path.realpath(__file__))
 TOP = os.path.dirname(os.path.dirname(HERE))
-MODULE = ("__init__.py", "_by_ctypes.py", "_choice.py", "_errors.py", "_library.py", "_walk.py", "py.typed", "relations.py")
+MODULE = (
+    *("__init__.py", "_by_ctypes.py", "_choice.py", "_errors.py", "_library.py", "_pathspec_util.py", "_walk.py"),
+    *("ignore.py", "pathspec.py", "py.typed", "relations.py"),
+)
 EXTENSION = "_extension.abi3.so"
 # The least Python and the tag of a wheel with the extension module, and of one without it.
 WITH_EXTENSION, WITHOUT = (("3.10", "cp310-abi3"), ("3.8", "py3-none"))

@@ -127,6 +127,37 @@ static void try_relations(void) {
     for (int i = 0; i < GLOBS; i++) globset_glob_free(made[i]);
 }
 
+/* After a failure the ignore decides as before. Lines are read without memory, and a walk goes up without memory. */
+static void try_ignore(void) {
+    static const char file[] = "*a*b*\n[c\n!/src/ab\nout/\n";
+    const size_t ends[] = {2, 6};
+    uint8_t answers[2] = {7, 7};
+    globset_ignore *ignore;
+    globset_rule rule = {7, 7};
+    const size_t *lines;
+    size_t count;
+    TRY(globset_ignore_new(GLOBSET_IGNORE_CASE, &ignore), GLOBSET_OK, CHECK(ignore == NULL && blocks == before));
+    TRY(globset_ignore_add_file(ignore, TEXT(file)), GLOBSET_OK,
+        CHECK(globset_ignore_is_ignored(ignore, "ab", 2, 0, 0, NULL) == 0));
+    TRY(globset_ignore_enter(ignore, TEXT("src")), GLOBSET_OK,
+        CHECK(globset_ignore_is_ignored(ignore, "src/ab", 6, 0, 0, &rule) == 0 && rule.line == 3));
+    TRY(globset_ignore_add_file(ignore, TEXT("xy\n")), GLOBSET_OK,
+        CHECK(globset_ignore_is_ignored(ignore, "xy", 2, 0, 0, NULL) == 0));
+    TRY(globset_ignore_is_ignored(ignore, TEXT("d/ab"), 0, GLOBSET_BY_GIT, &rule), 1,
+        CHECK(rule.file == 0 && rule.line == 0));
+    CHECK(rule.file == 0 && rule.line == 1);
+    TRY(globset_ignore_decide_many(ignore, TEXT("about/"), ends, 2, GLOBSET_BY_GIT, answers), GLOBSET_OK,
+        CHECK(answers[0] == 7 && answers[1] == 7));
+    CHECK(answers[0] == GLOBSET_KEPT && answers[1] == GLOBSET_IGNORED);
+    left = 0;
+    CHECK(globset_ignore_unread_lines(ignore, 0, &lines, &count) == GLOBSET_OK && count == 1 && lines[0] == 2);
+    CHECK(globset_ignore_leave(ignore) == GLOBSET_OK);
+    CHECK(globset_ignore_unread_lines(ignore, 1, &lines, &count) == GLOBSET_EINDEX);
+    left = -1;
+    CHECK(globset_ignore_is_ignored(ignore, "src/ab", 6, 0, 0, &rule) == 0 && rule.line == 3);
+    globset_ignore_free(ignore);
+}
+
 /* How many bytes were asked for while a set was made that keeps at most so many bytes of rows. */
 static size_t bytes_of_set(size_t limit) {
     globset_builder *builder;
@@ -153,6 +184,7 @@ int main(void) {
     try_searcher(set);
     globset_set_free(set);
     try_relations();
+    try_ignore();
     CHECK(blocks == 0);
     CHECK(failures > 0);
     printf("memory: passed, %ld failures of allocations\n", failures);

@@ -9,6 +9,7 @@ static void frees(void) {
     globset_set_free(NULL);
     globset_searcher_free(NULL);
     globset_answers_free(NULL);
+    globset_ignore_free(NULL);
 }
 
 /* A cleanup that frees all that a function made, whether it was made or not. */
@@ -163,6 +164,36 @@ static void relations(void) {
     globset_glob_free(glob);
 }
 
+static void ignores(void) {
+    static const size_t end = 1;
+    globset_glob *glob = glob_of("a", 0);
+    globset_ignore *ignore = (globset_ignore *)glob;
+    globset_rule rule = {7, 7};
+    const size_t *lines = &end;
+    size_t count = 7;
+    uint8_t answer = 7;
+    CHECK(globset_ignore_new(0, NULL) == GLOBSET_ENULL);
+    CHECK(globset_ignore_new(2, &ignore) == GLOBSET_EOPTIONS && ignore == NULL);
+    CHECK(globset_ignore_new(0, &ignore) == GLOBSET_OK);
+    CHECK(globset_ignore_add_file(NULL, "a", 1) == GLOBSET_ENULL);
+    CHECK(globset_ignore_add_file(ignore, NULL, 1) == GLOBSET_ENULL);
+    CHECK(globset_ignore_enter(NULL, "a", 1) == GLOBSET_ENULL &&
+          globset_ignore_enter(ignore, NULL, 1) == GLOBSET_ENULL);
+    CHECK(globset_ignore_leave(NULL) == GLOBSET_ENULL);
+    CHECK(globset_ignore_is_ignored(NULL, "a", 1, 0, 0, &rule) == GLOBSET_ENULL && rule.file == 0 && rule.line == 0);
+    CHECK(globset_ignore_is_ignored(ignore, NULL, 1, 0, 0, &rule) == GLOBSET_ENULL);
+    CHECK(globset_ignore_is_ignored(ignore, NULL, GLOBSET_ZERO_TERMINATED, 0, 0, NULL) == GLOBSET_ENULL);
+    CHECK(globset_ignore_decide_many(NULL, "a", 1, &end, 1, 0, &answer) == GLOBSET_ENULL);
+    CHECK(globset_ignore_decide_many(ignore, NULL, 1, &end, 1, 0, &answer) == GLOBSET_ENULL);
+    CHECK(globset_ignore_decide_many(ignore, "a", 1, NULL, 1, 0, &answer) == GLOBSET_ENULL && answer == 7);
+    CHECK(globset_ignore_decide_many(ignore, "a", 1, &end, 1, 0, NULL) == GLOBSET_ENULL);
+    CHECK(globset_ignore_unread_lines(NULL, 0, &lines, &count) == GLOBSET_ENULL && lines == NULL && count == 0);
+    CHECK(globset_ignore_unread_lines(ignore, 0, NULL, &count) == GLOBSET_ENULL);
+    CHECK(globset_ignore_unread_lines(ignore, 0, &lines, NULL) == GLOBSET_ENULL);
+    globset_ignore_free(ignore);
+    globset_glob_free(glob);
+}
+
 /* An object that is no searcher, in the place of one. */
 static void no_searcher(void *object) {
     static const size_t end = 1;
@@ -197,6 +228,21 @@ static void no_answers(void *object) {
     CHECK(globset_answers_indexes(answers, 0, &indexes, &count) == GLOBSET_EKIND && indexes == NULL && count == 0);
 }
 
+static void no_ignore(void *object) {
+    static const size_t end = 1;
+    globset_ignore *ignore = (globset_ignore *)object;
+    globset_rule rule = {7, 7};
+    const size_t *lines = &end;
+    size_t count = 7;
+    uint8_t answer = 7;
+    CHECK(globset_ignore_add_file(ignore, "a", 1) == GLOBSET_EKIND &&
+          globset_ignore_enter(ignore, "a", 1) == GLOBSET_EKIND);
+    CHECK(globset_ignore_leave(ignore) == GLOBSET_EKIND);
+    CHECK(globset_ignore_is_ignored(ignore, "a", 1, 0, 0, &rule) == GLOBSET_EKIND && rule.file == 0 && rule.line == 0);
+    CHECK(globset_ignore_decide_many(ignore, "a", 1, &end, 1, 0, &answer) == GLOBSET_EKIND && answer == 7);
+    CHECK(globset_ignore_unread_lines(ignore, 0, &lines, &count) == GLOBSET_EKIND && lines == NULL && count == 0);
+}
+
 static void no_glob(const void *object, globset_builder *builder) {
     const globset_glob *glob = (const globset_glob *)object;
     globset_matcher *matcher;
@@ -219,8 +265,8 @@ static void no_builder(void *object, const globset_glob *glob) {
     CHECK(globset_builder_build(builder, &set) == GLOBSET_EKIND && set == NULL);
 }
 
-/* Passes an object to the `_free` of each other kind. The objects are a glob, a set, a searcher, a builder, a matcher
- * and answers. */
+/* Passes an object to the `_free` of each other kind. The objects are a glob, a set, a searcher, a builder, a matcher,
+ * answers and an ignore. */
 static void free_as_another(void *const *objects, int kind) {
     if (kind != 0) globset_glob_free((globset_glob *)objects[kind]);
     if (kind != 1) globset_set_free((globset_set *)objects[kind]);
@@ -228,6 +274,7 @@ static void free_as_another(void *const *objects, int kind) {
     if (kind != 3) globset_builder_free((globset_builder *)objects[kind]);
     if (kind != 4) globset_matcher_free((globset_matcher *)objects[kind]);
     if (kind != 5) globset_answers_free((globset_answers *)objects[kind]);
+    if (kind != 6) globset_ignore_free((globset_ignore *)objects[kind]);
 }
 
 static void wrong_kinds(void) {
@@ -238,29 +285,34 @@ static void wrong_kinds(void) {
     globset_builder *builder;
     globset_matcher *matcher;
     globset_answers *answers;
+    globset_ignore *ignore;
     CHECK(globset_builder_new(&builder) == GLOBSET_OK && globset_matcher_new(glob, &matcher) == GLOBSET_OK);
     CHECK(globset_overlap(glob, glob, 0, 9, &answers) == GLOBSET_OK);
-    void *const objects[6] = {glob, set, searcher, builder, matcher, answers};
-    for (int i = 0; i < 6; i++) {
+    CHECK(globset_ignore_new(0, &ignore) == GLOBSET_OK && globset_ignore_add_file(ignore, "a", 1) == GLOBSET_OK);
+    void *const objects[7] = {glob, set, searcher, builder, matcher, answers, ignore};
+    for (int i = 0; i < 7; i++) {
         if (objects[i] != glob) no_glob(objects[i], builder);
         if (objects[i] != set) no_set(objects[i]);
         if (objects[i] != searcher) no_searcher(objects[i]);
         if (objects[i] != builder) no_builder(objects[i], glob);
         if (objects[i] != answers) no_answers(objects[i]);
+        if (objects[i] != ignore) no_ignore(objects[i]);
         CHECK(globset_matcher_is_match((globset_matcher *)objects[i], "a", 1) == (i == 4 ? 1 : GLOBSET_EKIND));
     }
     CHECK(globset_searcher_is_match(searcher, "a", 1) == 1 && globset_set_is_match(set, "a", 1) == 1);
-    for (int i = 0; i < 6; i++) free_as_another(objects, i);
+    for (int i = 0; i < 7; i++) free_as_another(objects, i);
     CHECK(globset_searcher_is_match(searcher, "a", 1) == 1 && globset_set_is_match(set, "a", 1) == 1);
     CHECK(globset_matcher_is_match(matcher, "a", 1) == 1 && globset_glob_options(glob) == 0);
     CHECK(globset_builder_add(builder, glob) == GLOBSET_OK);
     CHECK(globset_answers_has_path(answers, 0, NULL, NULL) == 1);
+    CHECK(globset_ignore_is_ignored(ignore, "a", 1, 0, 0, NULL) == 1);
     globset_glob_free(glob);
     globset_set_free(set);
     globset_searcher_free(searcher);
     globset_builder_free(builder);
     globset_matcher_free(matcher);
     globset_answers_free(answers);
+    globset_ignore_free(ignore);
 }
 
 /* Lengths and counts that no array has: -1, as of a read that failed, and others. They are errors, and nothing is read. */
@@ -312,6 +364,24 @@ static void impossible_lengths(void) {
     globset_set_free(set);
 }
 
+/* The same at the calls on ignores. */
+static void impossible_lengths_of_ignores(void) {
+    static const size_t impossible[] = {(size_t)-1, (size_t)-2, GLOBSET_ZERO_TERMINATED + 1}, end = 1;
+    globset_ignore *ignore;
+    CHECK(globset_ignore_new(0, &ignore) == GLOBSET_OK);
+    for (int i = 0; i < 3; i++) {
+        size_t wrong = impossible[i];
+        globset_rule rule = {7, 7};
+        uint8_t answer = 7;
+        CHECK(globset_ignore_add_file(ignore, "a", wrong) == GLOBSET_ELENGTH);
+        CHECK(globset_ignore_enter(ignore, "a", wrong) == GLOBSET_ELENGTH);
+        CHECK(globset_ignore_is_ignored(ignore, "a", wrong, 0, 0, &rule) == GLOBSET_ELENGTH && rule.line == 0);
+        CHECK(globset_ignore_decide_many(ignore, "a", wrong, &end, 1, 0, &answer) == GLOBSET_ELENGTH);
+        CHECK(globset_ignore_decide_many(ignore, "a", 1, &end, wrong, 0, &answer) == GLOBSET_ELENGTH && answer == 7);
+    }
+    globset_ignore_free(ignore);
+}
+
 /* Each result has a text of its own, and a number that is none has one too. */
 static void status_texts(void) {
     for (int status = 1; status >= GLOBSET_EINDEX; status--)
@@ -333,8 +403,10 @@ int main(void) {
     questions();
     many();
     relations();
+    ignores();
     wrong_kinds();
     impossible_lengths();
+    impossible_lengths_of_ignores();
     status_texts();
     puts("misuse: passed");
     return 0;

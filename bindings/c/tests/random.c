@@ -7,7 +7,7 @@
 
 #include <pthread.h>
 
-enum { THREADS = 8, CALLS = 20, KINDS = 6, PIECES = 14 };
+enum { THREADS = 8, CALLS = 20, KINDS = 7, PIECES = 14 };
 
 static const char *const globs[] = {"*.c", "src/**", "{a,b}*", "*a*b*c", "[!x]?"};
 static const struct {
@@ -116,6 +116,40 @@ static void relate(struct caller *caller) {
     globset_answers_free(made);
 }
 
+/* Asks the ignore of the thread, or has it enter a directory, with a file, and leave it. */
+static void walk(struct caller *caller) {
+    size_t length, count, ends[2] = {(size_t)next(caller, 4), (size_t)next(caller, 4)};
+    const char *bytes = text(caller, &length);
+    globset_ignore *ignore = object(caller, 6), *made = NULL;
+    size_t many = next(caller, 8) == 0 ? impossible[next(caller, 3)] : next(caller, 3);
+    uint32_t by = (uint32_t)next(caller, 4);
+    globset_rule rule;
+    const size_t *lines;
+    uint8_t answers[2];
+    int result;
+    switch (next(caller, 5)) {
+    case 0:
+        note(caller, globset_ignore_is_ignored(ignore, bytes, length, 0, by, next(caller, 9) ? &rule : NULL));
+        break;
+    case 1:
+        note(caller, globset_ignore_decide_many(ignore, bytes, length, next(caller, 9) ? ends : NULL, many, by,
+                                                next(caller, 9) ? answers : NULL));
+        break;
+    case 2: note(caller, globset_ignore_unread_lines(ignore, next(caller, 3), &lines, &count)); break;
+    case 3:
+        note(caller, globset_ignore_new((uint32_t)next(caller, 3), next(caller, 9) ? &made : NULL));
+        globset_answers_free((globset_answers *)made);
+        globset_ignore_free(made);
+        break;
+    default:
+        result = globset_ignore_enter(ignore, bytes, length);
+        note(caller, result);
+        if (result != GLOBSET_OK) break;
+        note(caller, globset_ignore_add_file(ignore, bytes, length));
+        note(caller, globset_ignore_leave(ignore));
+    }
+}
+
 /* Makes an object and frees it, or passes it to the `_free` of another kind first. */
 static void make(struct caller *caller) {
     size_t length, index;
@@ -143,6 +177,7 @@ static void check_answers(struct caller *caller) {
     CHECK(finds(caller->objects[2], "src/x.c", wanted, 2));
     CHECK(globset_matcher_is_match(caller->objects[4], "abc", 3) == 1);
     CHECK(globset_answers_has_path(caller->objects[5], 0, NULL, NULL) == 1);
+    CHECK(globset_ignore_is_ignored(caller->objects[6], "src/a.o", 7, 0, GLOBSET_BY_GIT, NULL) == 1);
 }
 
 struct work {
@@ -157,6 +192,9 @@ static void *run(void *at) {
     globset_matcher *matcher;
     globset_builder *builder;
     globset_answers *answers;
+    globset_ignore *ignore;
+    CHECK(globset_ignore_new(0, &ignore) == GLOBSET_OK);
+    CHECK(globset_ignore_add_file(ignore, "*.o", 3) == GLOBSET_OK);
     CHECK(globset_overlap(caller->objects[0], caller->objects[0], 0, 100, &answers) == GLOBSET_OK);
     CHECK(globset_searcher_new(caller->objects[1], &searcher) == GLOBSET_OK);
     CHECK(globset_matcher_new(caller->objects[0], &matcher) == GLOBSET_OK);
@@ -165,15 +203,18 @@ static void *run(void *at) {
     caller->objects[3] = builder;
     caller->objects[4] = matcher;
     caller->objects[5] = answers;
+    caller->objects[6] = ignore;
     for (long round = 0; round < work->rounds; round++) {
         for (int i = 0; i < CALLS; i++) {
-            uint64_t chosen = next(caller, 10);
+            uint64_t chosen = next(caller, 12);
             if (chosen == 0)
                 make(caller);
             else if (chosen < 3)
                 write_text(caller);
             else if (chosen < 5)
                 relate(caller);
+            else if (chosen < 7)
+                walk(caller);
             else
                 ask(caller);
         }
@@ -183,6 +224,7 @@ static void *run(void *at) {
     globset_matcher_free(matcher);
     globset_builder_free(builder);
     globset_answers_free(answers);
+    globset_ignore_free(ignore);
     return NULL;
 }
 

@@ -60,6 +60,7 @@ from typing import (
 
 from . import _walk
 from ._errors import ErrorKind, GlobError, surrogate_error
+from .ignore import IgnoreRules, IgnoreStack
 
 if TYPE_CHECKING:
     from . import _by_ctypes as _binding
@@ -69,7 +70,7 @@ else:
 
     GlobBase, GlobSetBase, escape = _binding.GlobBase, _binding.GlobSetBase, _binding.escape
 
-__all__ = ["ErrorKind", "Glob", "GlobError", "GlobSet", "escape", "walk"]
+__all__ = ["ErrorKind", "Glob", "GlobError", "GlobSet", "IgnoreRules", "IgnoreStack", "escape", "walk"]
 __version__ = "0.4.21.1"
 
 _AnyGlob = TypeVar("_AnyGlob", bound="Glob")
@@ -281,7 +282,7 @@ def walk(
     top: Union[AnyStr, "os.PathLike[AnyStr]"],
     globs: _Globs,
     *,
-    ignored: _Globs = (),
+    ignored: Union[_Globs, bool] = (),
     on_error: Optional[Callable[[OSError], object]] = None,
 ) -> Iterator[AnyStr]:
     """Yields the paths of the files below ``top`` that some glob matches, relative to ``top``, with ``/`` between names.
@@ -289,6 +290,10 @@ def walk(
     ``globs`` is a ``GlobSet`` or what one is made from, and so is ``ignored``. A directory is opened only if some path below
     it can match a glob, and ``ignored`` does not match the directory itself. A file that ``ignored`` matches is left out.
     Symbolic links below ``top`` are not followed: they are files, whatever they name.
+
+    If ``ignored`` is ``True``, the walk leaves out what the files ``.gitignore`` in ``top`` and below it ignore, by git's rule,
+    and does not open the directories that they ignore. It reads such a file in each directory that it opens; as git does, it
+    reads no symbolic link of that name. A directory ``.git`` is walked as any other, unless a rule ignores it.
 
     The files of a directory come before the contents of its directories, both in the order of their names. The paths are
     ``bytes`` if ``top`` is. If a directory cannot be read, ``on_error`` is called with the ``OSError``, and the walk goes on
@@ -300,10 +305,17 @@ def walk(
     ...     for name in ["setup.py", "src/run.c", "src/run.py", "src/tool/old.py"]:
     ...         open(os.path.join(top, name), "w").close()
     ...     list(walk(top, ["src/**/*.py"], ignored=["**/old.*"]))
+    ...     with open(os.path.join(top, "src", ".gitignore"), "w") as file:
+    ...         _ = file.write("/tool")
+    ...     list(walk(top, ["**/*.py"], ignored=True))
     ['src/run.py']
+    ['setup.py', 'src/run.py']
     """
-    wanted, unwanted = _set_of(globs), _set_of(ignored)
-    return _walk.files(os.fspath(top), wanted, unwanted if len(unwanted) > 0 else None, on_error)
+    start, wanted = os.fspath(top), _set_of(globs)
+    if isinstance(ignored, bool):
+        return _walk.files(start, wanted, _walk.GitIgnored() if ignored else _walk.Unwanted(None), on_error)
+    unwanted = _set_of(ignored)
+    return _walk.files(start, wanted, _walk.Unwanted(unwanted if len(unwanted) > 0 else None), on_error)
 
 
 def _set_of(globs: _Globs) -> GlobSet:

@@ -8,11 +8,12 @@ from array import array
 from collections import deque
 from functools import partial
 from itertools import accumulate, compress
-from typing import Any, Deque, Iterable, List, Tuple, Type, TypeVar, Union
+from threading import RLock
+from typing import Any, Callable, Deque, Iterable, List, Optional, Tuple, Type, TypeVar, Union
 
 from . import _library
 from ._errors import glob_error
-from ._library import Lent, Object, Searcher, Told
+from ._library import Indexes, Lent, Object, Searcher, Told
 
 Path = Union[str, bytes, "os.PathLike[str]", "os.PathLike[bytes]"]
 
@@ -205,8 +206,7 @@ class GlobSetBase:
         if count == 0:
             return b""
         data = b"".join(parts)
-        # A `size_t` has 8 bytes, as a `Q` has, where there is a library.
-        ends = array("Q", accumulate(map(len, parts)))
+        ends = _ends_of(parts)
         answers = ctypes.create_string_buffer(count)
         ends_at, _ = ends.buffer_info()
         searcher = self._take_searcher()
@@ -221,6 +221,104 @@ class GlobSetBase:
             return self._searchers.pop()
         except IndexError:
             return Searcher(self._at)
+
+
+class IgnoreFiles:
+    """The directory that a walk is in, with the ignore files in it and in those above it, and with the bits of their options."""
+
+    __slots__ = ("_object", "_at", "_turn", "_is_lent")
+
+    _object: Object
+    _at: int
+    # Who makes a call has its turn. A signal's handler or a finalizer may make a call meanwhile, in the same thread.
+    _turn: RLock
+    # Whether a call of the thread that has its turn reads what the library lends.
+    _is_lent: bool
+
+    def __new__(cls, options: int, /) -> IgnoreFiles:
+        self = object.__new__(cls)
+        self._object = Object()
+        self._at = ctypes.addressof(self._object)
+        _library.raise_unless_done(_library.ignore_new(options, self._at))
+        self._turn = RLock()
+        self._is_lent = False
+        return self
+
+    def add_file(self, file: bytes, /) -> None:
+        """Adds an ignore file of the directory that the walk is in. It takes precedence over those that are there."""
+        data = bytes.__getitem__(file, slice(None))
+        _library.raise_unless_done(self._call(_library.ignore_add_file, data, len(data)))
+
+    def enter(self, name: Path, /) -> None:
+        """Goes down into the directory of a name."""
+        data = _bytes_of(name)
+        _library.raise_unless_done(self._call(_library.ignore_enter, data, len(data)))
+
+    def leave(self) -> None:
+        """Goes up, without the files that were added since. In the top directory it does nothing."""
+        _library.raise_unless_done(self._call(_library.ignore_leave))
+
+    def decide(self, path: Path, is_directory: int, by: int, /) -> Optional[Tuple[bool, int, int]]:
+        """Returns whether a rule ignores the path, the index of its file and the number of its line, or None without a rule.
+
+        ``is_directory`` is -1 if a ``/`` at the end of the path says it.
+        """
+        data = _bytes_of(path)
+        if data.endswith(b"/"):
+            if is_directory == 0:
+                raise ValueError("a path that ends with / is that of a directory")
+            data, is_directory = data[:-1], 1
+        file, line = ctypes.c_size_t(), ctypes.c_size_t()
+        places = ctypes.byref(file), ctypes.byref(line)
+        is_ignored = _library.answer(self._call(_library.ignore_decide, data, len(data), is_directory == 1, by, *places))
+        return (is_ignored, file.value, line.value) if line.value > 0 else None
+
+    def decide_many(self, paths: Iterable[Path], by: int, /) -> List[Optional[bool]]:
+        """Returns for each path whether a rule ignores it, or None without a rule. A ``/`` at its end is that of a directory."""
+        decisions = (None, True, False)
+        return [decisions[byte] for byte in self._ask_many([_bytes_of(path) for path in list(_many(paths))], by)]
+
+    def filter(self, paths: Iterable[_AnyPath], by: int, /) -> List[_AnyPath]:
+        """Returns the paths that no rule ignores, in order."""
+        asked = list(_many(paths))
+        answers = self._ask_many([_bytes_of(path) for path in asked], by)
+        return [path for path, byte in zip(asked, answers) if byte != 1]
+
+    def unread_lines(self, file: int, /) -> List[int]:
+        """Returns the numbers of the lines of a file that cannot be read, by its index."""
+        none = (ctypes.c_size_t * 1)()
+        lines = Indexes(ctypes.addressof(none), 0)
+        with self._turn:
+            self._refuse_if_lent()
+            self._is_lent = True
+            try:
+                status = _library.ignore_unread_lines(self._at, file, ctypes.byref(lines))
+                copied = ctypes.cast(lines.at, ctypes.POINTER(ctypes.c_size_t))[: lines.count] if lines.count else []
+            finally:
+                self._is_lent = False
+        if status == _library.BAD_INDEX:
+            raise IndexError("there is no ignore file of this index")
+        _library.raise_unless_done(status)
+        return copied
+
+    def _ask_many(self, parts: List[bytes], by: int) -> bytes:
+        """Returns a byte for each path: 1 if it is ignored, 2 if it is kept, and 0 if no rule decides."""
+        data, ends, count = b"".join(parts), _ends_of(parts), len(parts)
+        answers = ctypes.create_string_buffer(max(count, 1))
+        ends_at, _ = ends.buffer_info()
+        status = self._call(_library.ignore_decide_many, data, len(data), ends_at, count, by, answers, count)
+        _library.raise_unless_done(status)
+        return answers.raw[:count]
+
+    def _call(self, call: Callable[..., int], *arguments: Any) -> int:
+        """Makes a call of the library when no other thread makes one."""
+        with self._turn:
+            self._refuse_if_lent()
+            return call(self._at, *arguments)
+
+    def _refuse_if_lent(self) -> None:
+        if self._is_lent:
+            raise RuntimeError("globset: these ignore files are in a call of this thread that is not over")
 
 
 def covering(glob: GlobBase, by: Tuple[GlobBase, ...], domain: int, limit: int, /) -> Told:
@@ -280,6 +378,12 @@ def _bytes_of(path: Path) -> bytes:
     if issubclass(type(data), str):
         return str.encode(data, "utf-8", "surrogateescape")
     return bytes.__getitem__(data, slice(None))
+
+
+def _ends_of(parts: List[bytes]) -> "array[int]":
+    """Returns where each part ends if they stand one after another. There is one end more, since no array may be null."""
+    # A `size_t` has 8 bytes, as a `Q` has, where there is a library.
+    return array("Q", accumulate([*map(len, parts), 0]))
 
 
 def _many(paths: Iterable[_AnyPath]) -> Iterable[_AnyPath]:

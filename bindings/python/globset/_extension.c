@@ -199,11 +199,15 @@ static int ask_all(PyObject *self, PyObject *iterator, struct block *block, ask_
     return done;
 }
 
+/* Paths are an iterable of them, which a single path is not. */
+static int refuse_one(PyObject *paths) {
+    if (!PyUnicode_Check(paths) && !PyBytes_Check(paths)) return 0;
+    PyErr_Format(PyExc_TypeError, "paths are an iterable of them, not one %s", PyUnicode_Check(paths) ? "str" : "bytes");
+    return -1;
+}
+
 static PyObject *ask_many(PyObject *self, PyObject *paths, ask_block *ask, add_block *add) {
-    if (PyUnicode_Check(paths) || PyBytes_Check(paths)) {
-        return PyErr_Format(PyExc_TypeError, "paths are an iterable of them, not one %s",
-                            PyUnicode_Check(paths) ? "str" : "bytes");
-    }
+    if (refuse_one(paths) < 0) return NULL;
     PyObject *iterator = PyObject_GetIter(paths);
     if (!iterator) return NULL;
     PyObject *list = PyList_New(0);
@@ -587,6 +591,8 @@ static PyObject *set_filter(PyObject *self, PyObject *paths) { return ask_many(s
 
 #include "_relations.h"
 
+#include "_ignore.h"
+
 /* ---- The module ---- */
 
 static PyObject *escape(PyObject *module, PyObject *text) {
@@ -633,6 +639,17 @@ static PyMethodDef set_methods[] = {
     {NULL, NULL, 0, NULL},
 };
 
+static PyMethodDef ignore_methods[] = {
+    {"add_file", ignore_add_file, METH_O, IGNORE_ADD_FILE},
+    {"enter", ignore_enter, METH_O, IGNORE_ENTER},
+    {"leave", ignore_leave, METH_NOARGS, IGNORE_LEAVE},
+    {"decide", ignore_decide, METH_VARARGS, IGNORE_DECIDE},
+    {"decide_many", ignore_decide_many, METH_VARARGS, IGNORE_DECIDE_MANY},
+    {"filter", ignore_filter, METH_VARARGS, IGNORE_FILTER},
+    {"unread_lines", ignore_unread_lines, METH_O, IGNORE_UNREAD_LINES},
+    {NULL, NULL, 0, NULL},
+};
+
 static PyMethodDef functions[] = {
     {"covering", covering, METH_VARARGS, COVERING},
     {"overlap", overlap, METH_VARARGS, OVERLAP},
@@ -655,6 +672,14 @@ static PyType_Slot set_slots[] = {
     {Py_tp_doc, SET}, {Py_tp_new, set_new}, {Py_tp_dealloc, set_dealloc}, {Py_tp_methods, set_methods}, {0, NULL},
 };
 
+static PyType_Slot ignore_slots[] = {
+    {Py_tp_doc, IGNORE},
+    {Py_tp_new, ignore_new},
+    {Py_tp_dealloc, ignore_dealloc},
+    {Py_tp_methods, ignore_methods},
+    {0, NULL},
+};
+
 static PyType_Spec glob_spec = {
     .name = "globset._extension.GlobBase",
     .basicsize = sizeof(struct glob),
@@ -669,15 +694,26 @@ static PyType_Spec set_spec = {
     .slots = set_slots,
 };
 
+static PyType_Spec ignore_spec = {
+    .name = "globset._extension.IgnoreFiles",
+    .basicsize = sizeof(struct ignore_files),
+    .flags = Py_TPFLAGS_DEFAULT,
+    .slots = ignore_slots,
+};
+
+static int add_type(PyObject *module, PyType_Spec *spec) {
+    PyObject *type = PyType_FromModuleAndSpec(module, spec, NULL);
+    int added = type ? PyModule_AddType(module, (PyTypeObject *)type) : -1;
+    Py_XDECREF(type);
+    return added;
+}
+
 /* The state of a module is its class GlobBase. */
 static int execute(PyObject *module) {
     PyTypeObject **glob_type = PyModule_GetState(module);
     *glob_type = (PyTypeObject *)PyType_FromModuleAndSpec(module, &glob_spec, NULL);
     if (!*glob_type || PyModule_AddType(module, *glob_type) < 0) return -1;
-    PyObject *set_type = PyType_FromModuleAndSpec(module, &set_spec, NULL);
-    int added = set_type ? PyModule_AddType(module, (PyTypeObject *)set_type) : -1;
-    Py_XDECREF(set_type);
-    return added;
+    return add_type(module, &set_spec) < 0 ? -1 : add_type(module, &ignore_spec);
 }
 
 static int traverse(PyObject *module, visitproc visit, void *arg) {

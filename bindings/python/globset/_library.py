@@ -10,6 +10,7 @@ from typing import Any, Callable, List, Sequence, Tuple, Union
 DONE, NO, YES, OUT_OF_MEMORY, REJECTED = range(5)
 TOO_SMALL = 9
 LIMIT_REACHED = 10
+BAD_INDEX = 11
 
 # GLOBSET_INTERFACE of the header that this file was written after.
 INTERFACE = 1
@@ -45,7 +46,7 @@ class Bytes(ctypes.Structure):
 
 
 class Indexes(ctypes.Structure):
-    """globset_indexes: indexes that a searcher or answers lend."""
+    """globset_indexes: indexes that a searcher or answers lend, or lines that ignore files lend."""
 
     _fields_ = [("at", ctypes.c_void_p), ("count", ctypes.c_size_t)]
 
@@ -100,6 +101,15 @@ covering = _declare("raw_covering", _LENT, _LENTS, _SIZE, _NUMBER, _SIZE, _OWNED
 overlap = _declare("raw_overlap", _LENT, _LENT, _NUMBER, _SIZE, _OWNED)
 unreachable = _declare("raw_unreachable", _LENTS, _SIZE, _NUMBER, _NUMBER, _SIZE, _OWNED)
 answers_at = _declare("raw_answers_at", _OWNED, _SIZE, _LENT_BYTES, _INDEXES)
+ignore_new = _declare("raw_ignore_new", _NUMBER, _OWNED)
+ignore_add_file = _declare("raw_ignore_add_file", _OWNED, _BYTES, _SIZE)
+ignore_enter = _declare("raw_ignore_enter", _OWNED, _BYTES, _SIZE)
+ignore_leave = _declare("raw_ignore_leave", _OWNED)
+ignore_decide = _declare("raw_ignore_decide", _OWNED, _BYTES, _SIZE, _NUMBER, _NUMBER, _RESULT, _RESULT)
+ignore_decide_many = _declare(
+    "raw_ignore_decide_many", _OWNED, _BYTES, _SIZE, ctypes.c_void_p, _SIZE, _NUMBER, ctypes.c_void_p, _SIZE
+)
+ignore_unread_lines = _declare("raw_ignore_unread_lines", _OWNED, _SIZE, _INDEXES)
 escape = _declare("raw_escape", _BYTES, _SIZE, *_ROOM)
 version = _declare("version")
 _free = _declare("raw_free", Owned, result=None)

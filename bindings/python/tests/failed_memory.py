@@ -6,10 +6,11 @@ Each call has to raise MemoryError or to answer as it does otherwise, and all ob
 
 import os
 
-from globset import Glob, GlobError, GlobSet, escape
+from globset import Glob, GlobError, GlobSet, IgnoreRules, IgnoreStack, escape
 from globset.relations import covering, overlap, unreachable
 
 PATHS = ["src/a.py", b"b.c", "README", "a" * 300] * 600
+LINES = ["*.py", "!keep.py", "/src/**/[ab]*", "build/", "[a"]
 PATTERNS = ["*.py", "src/**/[ab]*", "{a,b*}c", "**", "*a*b*", "README"]
 
 
@@ -22,6 +23,20 @@ def rejected():
 
 def on_set(call):
     return lambda: call(GlobSet(PATTERNS))
+
+
+def on_ignore(call):
+    return lambda: call(IgnoreRules(LINES))
+
+
+def in_walk():
+    walk = IgnoreStack(ignore_case=True)
+    walk.add_file(LINES)
+    walk.enter("src/tool")
+    walk.add_file("!/*.py")
+    said = walk.decide("a.py"), walk.decide_many(["a.py", "build/"])
+    walk.leave()
+    return said, walk.decide("src/tool/a.py")
 
 
 CALLS = {
@@ -43,6 +58,11 @@ CALLS = {
     "covering": lambda: covering("src/**/[ab]*.py", PATTERNS),
     "overlap": lambda: overlap("a*", "*b"),
     "unreachable": lambda: unreachable(PATTERNS),
+    "IgnoreRules.decide": on_ignore(lambda rules: rules.decide("src/a/b/a.py", by="nearest")),
+    "IgnoreRules.decide_many": on_ignore(lambda rules: rules.decide_many(PATHS)),
+    "IgnoreRules.filter": on_ignore(lambda rules: rules.filter(PATHS)),
+    "IgnoreRules.unread_lines": on_ignore(lambda rules: rules.unread_lines()),
+    "IgnoreStack": in_walk,
 }
 
 

@@ -4,8 +4,8 @@
 Usage: misuse.py [SEED [CALLS]]
 
 Arguments are of any type; paths run code of Python while they are read, which makes further calls, drops the objects that are in
-use, and changes the lists that are read. After it all sets have to answer as at first. A crash ends the interpreter, so the program
-is worth most over an extension module that was built with sanitizers.
+use, and changes the lists that are read. After it sets and rules have to answer as at first. A crash ends the interpreter, so the
+program is worth most over an extension module that was built with sanitizers.
 """
 
 import copy
@@ -19,12 +19,14 @@ import threading
 import weakref
 
 import globset
-from globset import Glob, GlobError, GlobSet, escape
+from globset import Glob, GlobError, GlobSet, IgnoreRules, IgnoreStack, escape
 
 PATTERNS = ["*.py", "src/**", "{a,b}*", "[a-c]?", "**", "a\\*", "é*", "*a*b*c", "", "x" * 300, "**/..", "[!x]*"]
 REJECTED = ["[a", "[z-a]", "a}", "{a", "\\", "\udc80", "a\ud800"]
 PATHS = ["a.py", "src/a", "", "b", "abc", "a\0b", "é", "a/b/c/d.py", "\udcff", "\ud800", b"a.py", b"\xff\0", b"", "a" * 5000]
 MANY = ["match_many", "matches_many", "filter"]
+LINES = ["*.py", "!a.py", "src/", "/b/**", "# text", "", "[a", "a\\", "[!x]*", b"\xff", "é?\r\n"]
+IGNORE_METHODS = ["is_ignored", "decide", "decide_many", "filter", "unread_lines", "add_file", "enter", "leave"]
 METHODS = ["match", "matches", "matches_all", "can_match_below", *MANY, "regex", "pattern", "globs"]
 THREADS = 8
 # How deep calls within calls go.
@@ -34,9 +36,10 @@ DEPTH = 3
 class Misuse:
     """The random calls of one thread, on objects that all threads share."""
 
-    def __init__(self, seed, shared):
+    def __init__(self, seed, shared, ignores):
         self.rng = random.Random(seed)
         self.shared = shared
+        self.ignores = ignores
         self.depth = 0
         self.answers = self.exceptions = 0
 
@@ -82,7 +85,8 @@ class Misuse:
             return
         self.depth += 1
         try:
-            self.rng.choice([self.ask, self.ask, self.ask, self.ask, self.ask, self.make, self.make, self.drop, self.wrong])()
+            asks = [self.ask, self.ask, self.ask, self.ask, self.ask, self.ask_ignore, self.ask_ignore]
+            self.rng.choice([*asks, self.make, self.make, self.make_ignore, self.drop, self.wrong])()
             self.answers += 1
         except RecursionError:
             raise
@@ -98,6 +102,51 @@ class Misuse:
             argument = self.paths() if name in MANY else self.path()
             value(*([argument] if self.chance(0.95) else [argument] * self.rng.choice([0, 2])))
 
+    def one_ignore(self):
+        """Returns ignore files of those that are shared, or new ones."""
+        try:
+            return self.rng.choice(self.ignores)
+        except IndexError:
+            return IgnoreStack()
+
+    def lines(self):
+        """Returns what may stand where an ignore file is wanted."""
+        lines = self.rng.choices(LINES, k=self.rng.randrange(5))
+        return self.rng.choice([lambda: lines, lambda: iter(lines), lambda: Changing(self, lines), self.paths, self.path])()
+
+    def ask_ignore(self):
+        ignore, name = self.one_ignore(), self.rng.choice(IGNORE_METHODS)
+        if not hasattr(ignore, name):
+            name = "filter"
+        by = [self.rng.choice(["git", "nearest", "path"]) if self.chance(0.9) else self.path()]
+        arguments = {
+            "is_ignored": lambda: [self.path(), self.rng.choice([None, True, False]), *by],
+            "decide": lambda: [self.path(), self.path(), *by],
+            "decide_many": lambda: [self.paths(), *by],
+            "filter": lambda: [self.paths(), *by],
+            "unread_lines": lambda: [self.rng.choice([0, 0, 1, 3, -1, 2**64, self.path()])] * isinstance(ignore, IgnoreStack),
+            "add_file": lambda: [self.lines()],
+            "enter": lambda: [self.rng.choice(["a", "b/c", b"\xff", self.path()])],
+            "leave": list,
+        }[name]()
+        getattr(ignore, name)(*(arguments if self.chance(0.97) else [*arguments, self.path()]))
+        # Files that are not left take time and memory.
+        if name in ("add_file", "enter") and isinstance(ignore, IgnoreStack):
+            for _ in range(self.rng.randrange(4)):
+                ignore.leave()
+
+    def make_ignore(self):
+        if self.chance(0.2):
+            self.ignores.append(IgnoreStack(ignore_case=self.chance(0.5)))
+        elif self.chance(0.8):
+            self.ignores.append(IgnoreRules(self.lines(), ignore_case=self.chance(0.5)))
+        elif self.chance(0.5):
+            globset._binding.IgnoreFiles(*[self.path() for _ in range(self.rng.randrange(3))])
+        else:
+            files = globset._binding.IgnoreFiles(self.rng.randrange(3))
+            arguments = [self.path() for _ in range(self.rng.randrange(4))]
+            getattr(files, self.rng.choice(["add_file", "enter", "decide", "decide_many", "filter", "unread_lines"]))(*arguments)
+
     def make(self):
         text = self.rng.choice(PATTERNS) if self.chance(0.8) else self.rng.choice([*REJECTED, self.path()])
         if self.chance(0.3):
@@ -111,16 +160,25 @@ class Misuse:
             globset.GlobSetBase(*[(self.one(), self.path())[: self.rng.randrange(3)] for _ in range(self.rng.randrange(3))])
 
     def drop(self):
-        if self.shared and self.chance(0.7):
-            del self.shared[self.rng.randrange(len(self.shared))]
+        shared = self.shared if self.chance(0.7) else self.ignores
+        if shared and self.chance(0.7):
+            del shared[self.rng.randrange(len(shared))]
         else:
             gc.collect(self.rng.randrange(2))
 
     def wrong(self):
         """Makes a call that is none of those of the documentation."""
-        one, path = self.one(), self.path()
+        one, path, ignore = self.one(), self.path(), self.one_ignore()
         self.rng.choice(
             [
+                lambda: pickle.loads(pickle.dumps(ignore)),
+                lambda: copy.copy(ignore),
+                lambda: (ignore == path, hash(ignore), repr(ignore)),
+                lambda: object.__new__(type(ignore)).is_ignored(path),
+                lambda: setattr(ignore, "_files", path),
+                lambda: setattr(ignore, "__class__", self.rng.choice([IgnoreRules, IgnoreStack])),
+                lambda: type(ignore._files).filter(path, path, path),
+                lambda: object.__new__(type(ignore._files)).leave(),
                 lambda: GlobSet.match(Glob("a"), path),
                 lambda: Glob.match(GlobSet([]), path),
                 lambda: globset.GlobSetBase.filter(path, path),
@@ -210,16 +268,18 @@ def failing(paths):
 def main():
     seed = int(sys.argv[1]) if len(sys.argv) > 1 else 1
     calls = int(sys.argv[2]) if len(sys.argv) > 2 else 10_000
-    shared = []
-    kept = GlobSet(PATTERNS)
-    expected = [kept.matches(path) for path in PATHS if path != "\ud800"]
-    misuses = [Misuse(f"{seed}.{number}", shared) for number in range(THREADS)]
+    shared, ignores = [], []
+    kept, rules = GlobSet(PATTERNS), IgnoreRules(LINES)
+    asked = [path for path in PATHS if path != "\ud800"]
+    expected, decided = [kept.matches(path) for path in asked], rules.decide_many(asked)
+    misuses = [Misuse(f"{seed}.{number}", shared, ignores) for number in range(THREADS)]
 
     def work(misuse):
         for _ in range(calls // THREADS):
             misuse.call()
             if misuse.chance(0.05):
                 kept.matches_many(["a.py", "src/a"] * 600)
+                rules.filter(["a.py", "src/a"] * 600)
                 shared.append(kept)
 
     sys.setswitchinterval(1e-5)
@@ -229,8 +289,10 @@ def main():
     for thread in threads:
         thread.join()
     shared.clear()
+    ignores.clear()
     gc.collect()
-    assert [kept.matches(path) for path in PATHS if path != "\ud800"] == expected
+    assert [kept.matches(path) for path in asked] == expected
+    assert rules.decide_many(asked) == decided
     answers, exceptions = [sum(getattr(misuse, name) for misuse in misuses) for name in ("answers", "exceptions")]
     assert answers + exceptions >= calls // THREADS * THREADS, (answers, exceptions)
     print(f"misuse: {answers} answers and {exceptions} exceptions by {os.path.basename(globset._binding.__file__)}")

@@ -735,8 +735,8 @@ time.sleep(0.05)
         except (ImportError, OSError):
             self.skipTest("one of them is not there")
         functions = ["covering", "overlap", "unreachable", "escape", "version"]
-        pairs = [(getattr(one, name), getattr(other, name)) for name in ["GlobBase", "GlobSetBase", *functions]]
-        for first, second in pairs[:2]:
+        pairs = [(getattr(one, name), getattr(other, name)) for name in ["GlobBase", "GlobSetBase", "IgnoreFiles", *functions]]
+        for first, second in pairs[:3]:
             names = [name for name in dir(second) if not name.startswith("_")]
             self.assertEqual([name for name in dir(first) if not name.startswith("_")], names)
             pairs += [(getattr(first, name), getattr(second, name)) for name in names]

@@ -95,6 +95,47 @@ class Walk(unittest.TestCase):
         with self.assertRaises(FileNotFoundError):
             list(walk(os.path.join(self.top, "nothing"), ["*"]))
 
+    def write(self, path, text):
+        self.make(path)
+        with open(os.path.join(self.top, path), "w", encoding="utf-8") as file:
+            file.write(text)
+
+    def test_ignored_by_git(self):
+        self.make("a.o", "a.c", "src/a.o", "src/kept.o", "src/build/a.c", "src/deep/a/b/x.c", "zoo/build", "zoo/y.c", "build/z.c")
+        self.write(".gitignore", "*.o\nbuild/\n/.gitignore")
+        self.write("src/.gitignore", "!kept.o\n/deep/a/b")
+        self.write("src/deep/.gitignore", "nothing")
+        self.write("zoo/.gitignore", "y.c\n[")
+        wanted = ["a.c", "src/.gitignore", "src/kept.o", "src/deep/.gitignore", "zoo/.gitignore", "zoo/build"]
+        self.assertEqual(self.opened(["**"], ignored=True), (wanted, [".", "src", "src/deep", "src/deep/a", "zoo"]))
+        self.assertEqual(list(walk(os.fsencode(self.top), ["**"], ignored=True)), [os.fsencode(path) for path in wanted])
+        self.assertIn("a.o", list(walk(self.top, ["**"], ignored=False)))
+
+    def test_ignore_files_that_are_none(self):
+        """Git reads no link and no directory as an ignore file, and no file that a walk below the directory has left."""
+        self.make("a/x", "b/x", "c/.gitignore/x", "c/x")
+        self.write("a/.gitignore", "x")
+        os.symlink("../a/.gitignore", os.path.join(self.top, "b", ".gitignore"))
+        os.mkfifo(os.path.join(self.top, ".gitignore"))
+        wanted = [".gitignore", "a/.gitignore", "b/.gitignore", "b/x", "c/x", "c/.gitignore/x"]
+        self.assertEqual(list(walk(self.top, ["**"], ignored=True)), wanted)
+
+    def test_ignore_file_that_cannot_be_read(self):
+        self.make("a/x", "b/x", "b/c/x")
+        self.write("a/.gitignore", "x")
+        self.write("b/.gitignore", "c")
+        lstat, errors = os.lstat, []
+
+        def refuse(path, **options):
+            if os.fspath(path).endswith("a/.gitignore"):
+                raise PermissionError(13, "refused", path)
+            return lstat(path, **options)
+
+        with mock.patch("os.lstat", refuse):
+            self.assertEqual(list(walk(self.top, ["**"], ignored=True, on_error=errors.append)), ["b/.gitignore", "b/x"])
+            self.assertEqual([error.filename for error in errors], [os.path.join(self.top, "a/.gitignore")])
+            self.assertRaises(PermissionError, list, walk(self.top, ["**"], ignored=True))
+
     def test_deep(self):
         path = "/".join("d" * 200) + "/x.py"
         self.make(path)

@@ -3,9 +3,9 @@
 from __future__ import annotations
 
 import pathlib
-from typing import Dict, Iterator, List, Tuple
+from typing import Dict, Iterator, List, Optional, Tuple
 
-from globset import ErrorKind, Glob, GlobError, GlobSet, escape, relations, walk
+from globset import ErrorKind, Glob, GlobError, GlobSet, IgnoreRules, IgnoreStack, escape, ignore, pathspec, relations, walk
 
 one: Glob = Glob("*.py", case_insensitive=True)
 yes: bool = one.match("a.py")
@@ -28,6 +28,19 @@ covered: relations.Coverage = relations.covering("*.c", [one, "*"], domain=relat
 missed: str = covered.path or ""
 shared: relations.Intersection = relations.overlap(one, "a", limit=9)
 never: List[Tuple[int, ...]] = [rule.cover or () for rule in relations.unreachable(GlobSet([one]))]
+
+visible: Iterator[str] = walk(".", ["*.py"], ignored=True)
+rules: IgnoreRules = IgnoreRules(["*.o", b"*.a"], ignore_case=True)
+ignored: bool = rules.is_ignored(pathlib.Path("a"), is_dir=True, by="nearest")
+decision: Optional[ignore.Decision] = rules.decide(b"a")
+decisions: List[Optional[bool]] = IgnoreStack().decide_many(["a", b"b"], "path")
+others_of: List[pathlib.Path] = rules.filter(pathlib.Path(".").iterdir())
+unread: List[int] = rules.unread_lines() + IgnoreStack().unread_lines(0)
+spec: pathspec.GitIgnoreSpec = pathspec.GitIgnoreSpec.from_lines(["*.o"]) + pathspec.PathSpec.from_lines("gitignore", ["a"])
+named: pathspec.GitIgnoreSpec = pathspec.GitIgnoreSpec.from_lines("gitwildmatch", ["*.o"])
+matching: List[pathlib.Path] = list(spec.match_files([pathlib.Path("a.o")], negate=True))
+found: List[str] = list(spec.match_tree_files(pathlib.Path(".")))
+index: Optional[int] = spec.check_file("a.o").index
 
 
 def kind_of(text: str) -> ErrorKind:

@@ -1,4 +1,4 @@
-//! The C library behind the crate. All `unsafe` of the crate is in this file.
+//! The C library behind the crate. All `unsafe` of the crate is in this file and in `src/ffi/ignore.rs`.
 //!
 //! Each `SAFETY` comment cites, in quotation marks, the sentence of `globset_raw.h` on which the block rests. Four promises of a
 //! caller hold in every call here, and are not repeated:
@@ -7,7 +7,7 @@
 //!   At the exported functions it is never null, at length 0 too." They come from slices, strings and vectors, which are
 //!   borrowed during the call; a pointer to a result comes from a local variable.
 //! - "A handle is one that a call of this library wrote, or a copy of that. The caller neither reads nor writes through `at`."
-//!   Handles are private to this file, and are made by [`Owned::made`] alone.
+//!   Handles are private to these files, and are made by [`Owned::made`] alone.
 //! - "No call is made from a signal handler, nor in the child of a `fork` of a process with several threads." Safe Rust can do
 //!   neither.
 //! - "There is stack for a call". Rust has a guard page at the end of each stack.
@@ -21,6 +21,8 @@ use std::{
 };
 
 use crate::per_thread::PerThread;
+
+pub(crate) mod ignore;
 
 /// The bits of a glob's options, as in the header.
 pub(crate) mod options {

@@ -55,8 +55,9 @@
 //!
 //! # Additions
 //!
-//! [`GlobBuilder::whole_character`] is an option that globset does not have. The modules [`ext`] and [`relations`] have the other
-//! additions: searchers, and questions about all paths, such as whether two globs match some path in common.
+//! [`GlobBuilder::whole_character`] is an option that globset does not have. The modules [`ext`], [`relations`] and [`ignore`]
+//! have the other additions: searchers; questions about all paths, such as whether two globs match some path in common; and ignore
+//! files, by the rules of git.
 
 #![deny(missing_docs, unsafe_code, unsafe_op_in_unsafe_fn, clippy::undocumented_unsafe_blocks)]
 
@@ -69,6 +70,7 @@ pub mod ext;
 #[allow(unsafe_code)]
 mod ffi;
 mod glob;
+pub mod ignore;
 mod per_thread;
 pub mod relations;
 mod set;

@@ -12,7 +12,7 @@ use Rattle.glob_relations.specs.declared.unused.Decides.{Decides}
 use Rattle.glob_relations.specs.declared.unused.Reachability.{Reachability}
 use Rattle.globset_c.specs.declared.answers.Answers.TheVariants as answers
 use Rattle.globset_c.specs.declared.object.Object.{Object}
-use Rattle.globset_c.specs.declared.object.Object.TheVariants.{Glob, Matcher, Builder, Set, Work, Searcher, Answers}
+use Rattle.globset_c.specs.declared.object.Object.TheVariants.{Glob, Matcher, Builder, Set, Work, Searcher, Answers, Ignore}
 use Rattle.globset_c.specs.Kinds.{IfGlob}
 use Rattle.globset_c.specs.Relations.{AnswersCovering, AnswersOverlap, AnswersUnreachable}
 
@@ -27,6 +27,7 @@ answers_covering (Set h) g by globs domain limit c e same t = absurd e
 answers_covering (Work h) g by globs domain limit c e same t = absurd e
 answers_covering (Searcher h) g by globs domain limit c e same t = absurd e
 answers_covering (Answers h) g by globs domain limit c e same t = absurd e
+answers_covering (Ignore h) g by globs domain limit c e same t = absurd e
 
 second : (g h : GlobValue) (p : Object) (domain : Domain) (limit : ℕ) (c : Intersection) → IfGlob (Some p) (λ k. h ≡ k) → TellsOverlap g h domain limit c → IfGlob (Some p) (λ k. TellsOverlap g k domain limit c)
 second g h (Glob k) domain limit c e t = subst (λ (x : GlobValue). TellsOverlap g x domain limit c) e t
@@ -36,6 +37,7 @@ second g h (Set k) domain limit c e t = absurd e
 second g h (Work k) domain limit c e t = absurd e
 second g h (Searcher k) domain limit c e t = absurd e
 second g h (Answers k) domain limit c e t = absurd e
+second g h (Ignore k) domain limit c e t = absurd e
 
 pub answers_overlap : (o p : Object) (g h : GlobValue) (domain : Domain) (limit : ℕ) (c : Intersection)
     → IfGlob (Some o) (λ k. g ≡ k) → IfGlob (Some p) (λ k. h ≡ k) → TellsOverlap g h domain limit c → AnswersOverlap o p domain limit (Some (Answers (answers.Intersection c)))
@@ -47,6 +49,7 @@ answers_overlap (Set k) p g h domain limit c e f t = absurd e
 answers_overlap (Work k) p g h domain limit c e f t = absurd e
 answers_overlap (Searcher k) p g h domain limit c e f t = absurd e
 answers_overlap (Answers k) p g h domain limit c e f t = absurd e
+answers_overlap (Ignore k) p g h domain limit c e f t = absurd e
 
 pub answers_unreachable : (copies globs : List GlobValue) (decides : Decides) (domain : Domain) (limit : ℕ) (all : Vec Reachability Global) → copies ≡ globs
     → ((i : ℕ) (g : GlobValue) (r : Reachability) → slice_get copies i ≡ Some g → slice_get all.items i ≡ Some r → TellsReachability copies g (rivals decides i (length copies)) domain limit r)

@@ -5,7 +5,7 @@ use Rattle.std.proofs.lemmas.List.Elements.{All-more, All-nil, All-tail}
 use Rattle.std.specs.Prelude.{Some, take, slice_index_or}
 use Rattle.globset_c.specs.declared.lent.Lent.{Lent}
 use Rattle.globset_c.specs.declared.object.Object.{Object}
-use Rattle.globset_c.specs.declared.object.Object.TheVariants.{Glob, Matcher, Builder, Set, Work, Searcher, Answers}
+use Rattle.globset_c.specs.declared.object.Object.TheVariants.{Glob, Matcher, Builder, Set, Work, Searcher, Answers, Ignore}
 use Rattle.globset_glob.specs.GlobMatches.{GlobValue}
 use Rattle.globset_c.specs.Kinds.{IfGlob, IsGlob}
 use Rattle.globset_c.specs.LentGlobs.{AreGlobs, glob_in, lent_globs}
@@ -33,6 +33,7 @@ one_at_most (Set o) = omega arith
 one_at_most (Work o) = omega arith
 one_at_most (Searcher o) = omega arith
 one_at_most (Answers o) = omega arith
+one_at_most (Ignore o) = omega arith
 
 one_each : (o : Object) → IsGlob (Some o) → length (glob_in o) ≡ 1
 one_each (Glob g) h = refl
@@ -42,6 +43,7 @@ one_each (Set o) h = absurd h
 one_each (Work o) h = absurd h
 one_each (Searcher o) h = absurd h
 one_each (Answers o) h = absurd h
+one_each (Ignore o) h = absurd h
 
 -- The glob of an object, where a copy is equal to it.
 pub the_glob : (o : Object) (c : GlobValue) → IfGlob (Some o) (λ g. c ≡ g) → glob_in o ≡ c ∷ []
@@ -52,6 +54,7 @@ the_glob (Set o) c e = absurd e
 the_glob (Work o) c e = absurd e
 the_glob (Searcher o) c e = absurd e
 the_glob (Answers o) c e = absurd e
+the_glob (Ignore o) c e = absurd e
 
 at_most : (ls : List Lent) → length (lent_globs ls) ≤ length ls
 at_most [] = omega arith

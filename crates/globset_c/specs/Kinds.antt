@@ -1,11 +1,12 @@
 -- Facts of an object of a given kind.
 use Rattle.std.specs.Prelude.{Option, Some, ⊤}
+use Rattle.git_ignore.specs.StackValue.{StackValue}
 use Rattle.globset_glob.specs.GlobMatches.{GlobValue}
 use Rattle.globset.specs.SearcherValue.{SearcherValue}
 use Rattle.globset.specs.SetValue.{SetValue, BuilderValue}
 use Rattle.globset_c.specs.declared.answers.Answers.{Answers as AnswersValue}
 use Rattle.globset_c.specs.declared.object.Object.{Object}
-use Rattle.globset_c.specs.declared.object.Object.TheVariants.{Glob, Matcher, Builder, Set, Work, Searcher, Answers}
+use Rattle.globset_c.specs.declared.object.Object.TheVariants.{Glob, Matcher, Builder, Set, Work, Searcher, Answers, Ignore}
 use Rattle.globset_c.specs.declared.object.Work.{Work as WorkValue}
 
 -- it is a glob, and P of it
@@ -43,6 +44,15 @@ abbrev pub IfAnswers : Option Object → (AnswersValue → Type 0) → Type 0
 IfAnswers (Some (Answers a)) P = P a
 IfAnswers _ P = ⊥
 
+-- it is a walk with its ignore files, and P of it
+abbrev pub IfIgnore : Option Object → (StackValue → Type 0) → Type 0
+IfIgnore (Some (Ignore s)) P = P s
+IfIgnore _ P = ⊥
+
+-- both are walks, and P of them
+abbrev pub IfIgnores : Option Object → Option Object → (StackValue → StackValue → Type 0) → Type 0
+IfIgnores old new P = IfIgnore old (λ s. IfIgnore new (λ t. P s t))
+
 -- both are searchers, and P of them
 abbrev pub IfSearchers : Option Object → Option Object → (SearcherValue → SearcherValue → Type 0) → Type 0
 IfSearchers old new P = IfSearcher old (λ s. IfSearcher new (λ t. P s t))
@@ -67,3 +77,6 @@ IsSearcher o = IfSearcher o (λ _. ⊤)
 
 abbrev pub IsAnswers : Option Object → Type 0
 IsAnswers o = IfAnswers o (λ _. ⊤)
+
+abbrev pub IsIgnore : Option Object → Type 0
+IsIgnore o = IfIgnore o (λ _. ⊤)

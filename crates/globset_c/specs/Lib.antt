@@ -2,6 +2,7 @@ pub mod Answers
 pub mod Errors
 pub mod Allocation
 pub mod Held
+pub mod Ignoring
 pub mod Kinds
 pub mod Lending
 pub mod LentGlobs

@@ -2,6 +2,7 @@
 
 use crate::answers::Answers;
 use crate::read_glob::ReadGlob;
+use git_ignore::IgnoreStack;
 use globset::{GlobMatcher, GlobSet, GlobSetBuilder, Scratch, Searcher};
 
 /// The memory that a thread keeps between calls, and the indexes of the last call.
@@ -21,6 +22,7 @@ pub enum Object {
     Work(Work),
     Searcher(Searcher),
     Answers(Answers),
+    Ignore(IgnoreStack),
 }
 
 /// Why a call on objects failed.

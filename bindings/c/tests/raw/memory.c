@@ -166,6 +166,34 @@ static void try_relations(void) {
     for (int i = 0; i < GLOBS; i++) raw_glob_free(made[i]);
 }
 
+/* After a failure the ignore decides as before. Lines are read without memory, and a walk goes up without memory. */
+static void try_ignore(void) {
+    const size_t ends[] = {2, 6};
+    uint8_t answers[2] = {7, 7};
+    raw_ignore ignore = {{&ignore}};
+    globset_indexes lines;
+    size_t file = 7, line = 7;
+    TRY(raw_ignore_new(0, &ignore), GLOBSET_DONE, CHECK(blocks == before && ignore.object.at == &ignore));
+    TRY(raw_ignore_add_file(&ignore, TEXT("*a*b*\n[c\n!/src/ab\nout/")), GLOBSET_DONE,
+        CHECK(raw_ignore_unread_lines(&ignore, 0, &lines) == GLOBSET_BAD_INDEX));
+    TRY(raw_ignore_enter(&ignore, TEXT("src")), GLOBSET_DONE,
+        CHECK(raw_ignore_decide(&ignore, TEXT("src/ab"), 0, 0, &file, &line) == GLOBSET_NO && line == 3));
+    TRY(raw_ignore_add_file(&ignore, TEXT("xy")), GLOBSET_DONE,
+        CHECK(raw_ignore_unread_lines(&ignore, 1, &lines) == GLOBSET_BAD_INDEX));
+    file = line = 7;
+    TRY(raw_ignore_decide(&ignore, TEXT("d/ab"), 0, 0, &file, &line), GLOBSET_YES, CHECK(file == 7 && line == 7));
+    CHECK(file == 0 && line == 1);
+    TRY(raw_ignore_decide_many(&ignore, TEXT("about/"), ends, 2, 0, answers), GLOBSET_DONE,
+        CHECK(answers[0] == 7 && answers[1] == 7));
+    CHECK(answers[0] == 2 && answers[1] == 1);
+    left = 0;
+    CHECK(raw_ignore_unread_lines(&ignore, 0, &lines) == GLOBSET_DONE && lines.count == 1 && lines.at[0] == 2);
+    CHECK(raw_ignore_leave(&ignore) == GLOBSET_DONE);
+    CHECK(raw_ignore_unread_lines(&ignore, 1, &lines) == GLOBSET_BAD_INDEX && lines.count == 0);
+    left = -1;
+    raw_ignore_free(ignore);
+}
+
 /* How many bytes were asked for while a set was made that keeps at most so many bytes of rows. */
 static size_t bytes_of_set(size_t limit) {
     raw_builder builder;
@@ -192,6 +220,7 @@ int main(void) {
     try_plain(set, matcher);
     try_searcher(set);
     try_relations();
+    try_ignore();
     raw_matcher_free(matcher);
     raw_set_free(set);
     CHECK(blocks == 0);

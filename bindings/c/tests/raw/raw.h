@@ -24,6 +24,9 @@ typedef struct raw_searcher {
 typedef struct raw_answers {
     globset_owned object;
 } raw_answers;
+typedef struct raw_ignore {
+    globset_owned object;
+} raw_ignore;
 
 /* A place that may be pointed to where there is nothing. */
 static const size_t raw_no_indexes[1] = {0};
@@ -269,6 +272,40 @@ static inline globset_status raw_answers_at(raw_answers *answers, size_t index, 
 }
 
 static inline void raw_answers_free(raw_answers answers) { globset_raw_free(answers.object); }
+
+static inline globset_status raw_ignore_new(uint32_t options, raw_ignore *out) {
+    return globset_raw_ignore_new(options, &out->object);
+}
+
+static inline void raw_ignore_free(raw_ignore ignore) { globset_raw_free(ignore.object); }
+
+static inline globset_status raw_ignore_add_file(raw_ignore *ignore, const void *file, size_t file_len) {
+    return globset_raw_ignore_add_file(&ignore->object, raw_bytes(file), file_len);
+}
+
+static inline globset_status raw_ignore_enter(raw_ignore *ignore, const void *name, size_t name_len) {
+    return globset_raw_ignore_enter(&ignore->object, raw_bytes(name), name_len);
+}
+
+static inline globset_status raw_ignore_leave(raw_ignore *ignore) { return globset_raw_ignore_leave(&ignore->object); }
+
+static inline globset_status raw_ignore_decide(raw_ignore *ignore, const void *path, size_t path_len,
+                                               uint32_t is_directory, uint32_t by, size_t *file, size_t *line) {
+    return globset_raw_ignore_decide(&ignore->object, raw_bytes(path), path_len, is_directory, by, file, line);
+}
+
+static inline globset_status raw_ignore_decide_many(raw_ignore *ignore, const void *paths, size_t paths_len,
+                                                    const size_t *ends, size_t count, uint32_t by, uint8_t *answers) {
+    return globset_raw_ignore_decide_many(&ignore->object, raw_bytes(paths), paths_len, ends ? ends : raw_no_indexes,
+                                          count, by, answers, count);
+}
+
+/* Reads lines into a place that had something else before. */
+static inline globset_status raw_ignore_unread_lines(raw_ignore *ignore, size_t file, globset_indexes *lines) {
+    lines->at = raw_no_indexes;
+    lines->count = 1;
+    return globset_raw_ignore_unread_lines(&ignore->object, file, lines);
+}
 
 static inline raw_glob glob_of(const char *text, uint32_t options) {
     raw_glob glob;

@@ -1,0 +1,253 @@
+/* The ignore files of a walk: a part of _extension.c, which includes it once. */
+
+struct ignore_files {
+    PyObject_HEAD
+    globset_owned ignore;
+    /* Who makes a call of the library has it. No code of Python runs meanwhile, so no thread waits for itself. */
+    PyThread_type_lock turn;
+};
+
+static PyObject *ignore_new(PyTypeObject *type, PyObject *arguments, PyObject *keywords) {
+    static char *names[] = {"", NULL};
+    unsigned int options;
+    if (!PyArg_ParseTupleAndKeywords(arguments, keywords, "I:IgnoreFiles", names, &options)) return NULL;
+    struct ignore_files *self = (struct ignore_files *)new_object(type);
+    if (!self) return NULL;
+    globset_owned ignore;
+    self->turn = PyThread_allocate_lock();
+    globset_status status = self->turn ? globset_raw_ignore_new(options, &ignore) : GLOBSET_OUT_OF_MEMORY;
+    if (status == GLOBSET_DONE) {
+        self->ignore = ignore;
+        return (PyObject *)self;
+    }
+    raise_status(status);
+    Py_DECREF(self);
+    return NULL;
+}
+
+static void ignore_dealloc(PyObject *object) {
+    struct ignore_files *self = (struct ignore_files *)object;
+    if (self->ignore.at) globset_raw_free(self->ignore);
+    if (self->turn) PyThread_free_lock(self->turn);
+    end_object(object);
+}
+
+/* Begins a turn. It releases the interpreter's lock while another thread has its turn. */
+static void begin_turn(struct ignore_files *self) {
+    if (PyThread_acquire_lock(self->turn, NOWAIT_LOCK)) return;
+    Py_BEGIN_ALLOW_THREADS
+    PyThread_acquire_lock(self->turn, WAIT_LOCK);
+    Py_END_ALLOW_THREADS
+}
+
+static void end_turn(struct ignore_files *self) { PyThread_release_lock(self->turn); }
+
+static PyObject *none_if_done(globset_status status) {
+    return status == GLOBSET_DONE ? Py_NewRef(Py_None) : raise_status(status);
+}
+
+/* Releases the interpreter's lock while the file is read. The caller has a reference to it. */
+static PyObject *ignore_add_file(PyObject *object, PyObject *file) {
+    struct ignore_files *self = (struct ignore_files *)object;
+    char *at;
+    Py_ssize_t length;
+    if (PyBytes_AsStringAndSize(file, &at, &length) < 0) return NULL;
+    globset_status status;
+    begin_turn(self);
+    Py_BEGIN_ALLOW_THREADS
+    status = globset_raw_ignore_add_file(&self->ignore, (const uint8_t *)at, (size_t)length);
+    Py_END_ALLOW_THREADS
+    end_turn(self);
+    return none_if_done(status);
+}
+
+static PyObject *ignore_enter(PyObject *object, PyObject *name) {
+    struct ignore_files *self = (struct ignore_files *)object;
+    struct path path;
+    if (read_path(name, &path) < 0) return NULL;
+    begin_turn(self);
+    globset_status status = globset_raw_ignore_enter(&self->ignore, path.at, path.length);
+    end_turn(self);
+    Py_DECREF(path.holder);
+    return none_if_done(status);
+}
+
+static PyObject *ignore_leave(PyObject *object, PyObject *unused) {
+    struct ignore_files *self = (struct ignore_files *)object;
+    (void)unused;
+    begin_turn(self);
+    globset_status status = globset_raw_ignore_leave(&self->ignore);
+    end_turn(self);
+    return none_if_done(status);
+}
+
+/* Reads a path without a `/` at its end, which says that it is that of a directory. */
+static int read_entry(PyObject *asked, int *is_directory, struct path *path) {
+    if (read_path(asked, path) < 0) return -1;
+    if (path->length == 0 || path->at[path->length - 1] != '/') return 0;
+    if (*is_directory == 0) {
+        Py_DECREF(path->holder);
+        PyErr_SetString(PyExc_ValueError, "a path that ends with / is that of a directory");
+        return -1;
+    }
+    path->length--;
+    *is_directory = 1;
+    return 0;
+}
+
+static PyObject *ignore_decide(PyObject *object, PyObject *arguments) {
+    struct ignore_files *self = (struct ignore_files *)object;
+    PyObject *asked;
+    int is_directory;
+    unsigned int by;
+    struct path path;
+    if (!PyArg_ParseTuple(arguments, "OiI:decide", &asked, &is_directory, &by)) return NULL;
+    if (read_entry(asked, &is_directory, &path) < 0) return NULL;
+    size_t file = 0, line = 0;
+    begin_turn(self);
+    globset_status status =
+        globset_raw_ignore_decide(&self->ignore, path.at, path.length, is_directory == 1, by, &file, &line);
+    end_turn(self);
+    Py_DECREF(path.holder);
+    if (status != GLOBSET_YES && status != GLOBSET_NO) return raise_status(status);
+    if (line == 0) return Py_NewRef(Py_None);
+    return Py_BuildValue("Onn", status == GLOBSET_YES ? Py_True : Py_False, (Py_ssize_t)file, (Py_ssize_t)line);
+}
+
+/* Paths that one call decides about, with their bytes one after another. No array is null. */
+struct many {
+    PyObject *list;
+    size_t count;
+    uint8_t *bytes;
+    size_t length;
+    size_t room;
+    size_t *ends;
+    uint8_t *answers;
+};
+
+static void free_many(struct many *many) {
+    Py_XDECREF(many->list);
+    free(many->bytes);
+    free(many->ends);
+    free(many->answers);
+}
+
+/* Adds the bytes of path number `number`. */
+static int add_path(struct many *many, size_t number, const struct path *path) {
+    if (path->length > many->room - many->length) {
+        size_t room = 2 * many->room + path->length;
+        uint8_t *bytes = realloc(many->bytes, room);
+        if (!bytes) {
+            PyErr_NoMemory();
+            return -1;
+        }
+        many->bytes = bytes;
+        many->room = room;
+    }
+    memcpy(many->bytes + many->length, path->at, path->length);
+    many->length += path->length;
+    many->ends[number] = many->length;
+    return 0;
+}
+
+/* Reads paths into a list of their own. Its items are looked up each time, since code of Python may find the list. */
+static int read_many(PyObject *paths, struct many *many) {
+    *many = (struct many){.list = refuse_one(paths) < 0 ? NULL : PySequence_List(paths), .room = BLOCK};
+    if (!many->list) return -1;
+    many->count = (size_t)PyList_Size(many->list);
+    many->bytes = malloc(many->room);
+    many->ends = malloc((many->count + 1) * sizeof *many->ends);
+    many->answers = malloc(many->count + 1);
+    if (!many->bytes || !many->ends || !many->answers) {
+        PyErr_NoMemory();
+        return -1;
+    }
+    for (size_t i = 0; i < many->count; i++) {
+        PyObject *object = PyList_GetItem(many->list, (Py_ssize_t)i);
+        struct path path;
+        if (!object) return -1;
+        Py_INCREF(object);
+        int read = read_path(object, &path);
+        Py_DECREF(object);
+        if (read < 0) return -1;
+        int added = add_path(many, i, &path);
+        Py_DECREF(path.holder);
+        if (added < 0) return -1;
+    }
+    return 0;
+}
+
+/* Makes the list that is wanted of paths and their answers. */
+typedef PyObject *list_many(struct many *many);
+
+static PyObject *decisions_of(struct many *many) {
+    PyObject *of[] = {Py_None, Py_True, Py_False};
+    PyObject *list = PyList_New((Py_ssize_t)many->count);
+    for (size_t i = 0; list && i < many->count; i++) {
+        if (PyList_SetItem(list, (Py_ssize_t)i, Py_NewRef(of[many->answers[i]])) < 0) Py_CLEAR(list);
+    }
+    return list;
+}
+
+static PyObject *not_ignored_of(struct many *many) {
+    PyObject *list = PyList_New(0);
+    for (size_t i = 0; list && i < many->count; i++) {
+        if (many->answers[i] == 1) continue;
+        PyObject *object = PyList_GetItem(many->list, (Py_ssize_t)i);
+        if (!object || PyList_Append(list, object) < 0) Py_CLEAR(list);
+    }
+    return list;
+}
+
+/* Releases the interpreter's lock while it decides. */
+static PyObject *ask_ignore_many(PyObject *object, PyObject *arguments, const char *format, list_many *list) {
+    struct ignore_files *self = (struct ignore_files *)object;
+    PyObject *paths, *result = NULL;
+    unsigned int by;
+    struct many many;
+    if (!PyArg_ParseTuple(arguments, format, &paths, &by)) return NULL;
+    if (read_many(paths, &many) == 0) {
+        globset_status status;
+        begin_turn(self);
+        Py_BEGIN_ALLOW_THREADS
+        status = globset_raw_ignore_decide_many(&self->ignore, many.bytes, many.length, many.ends, many.count, by,
+                                                many.answers, many.count);
+        Py_END_ALLOW_THREADS
+        end_turn(self);
+        result = status == GLOBSET_DONE ? list(&many) : raise_status(status);
+    }
+    free_many(&many);
+    return result;
+}
+
+static PyObject *ignore_decide_many(PyObject *self, PyObject *arguments) {
+    return ask_ignore_many(self, arguments, "OI:decide_many", decisions_of);
+}
+
+static PyObject *ignore_filter(PyObject *self, PyObject *arguments) {
+    return ask_ignore_many(self, arguments, "OI:filter", not_ignored_of);
+}
+
+/* The lines are lent until the turn ends, so they are copied before objects of Python are made of them. */
+static PyObject *ignore_unread_lines(PyObject *object, PyObject *number) {
+    static const size_t none[1] = {0};
+    struct ignore_files *self = (struct ignore_files *)object;
+    size_t file = PyLong_AsSize_t(number);
+    if (PyErr_Occurred()) return NULL;
+    globset_indexes lines = {none, 0};
+    begin_turn(self);
+    globset_status status = globset_raw_ignore_unread_lines(&self->ignore, file, &lines);
+    size_t *copied = malloc((lines.count + 1) * sizeof *copied);
+    if (copied) memcpy(copied, lines.at, lines.count * sizeof *copied);
+    end_turn(self);
+    PyObject *list = NULL;
+    if (status == GLOBSET_BAD_INDEX) {
+        PyErr_SetString(PyExc_IndexError, "there is no ignore file of this index");
+    } else if (status != GLOBSET_DONE) {
+        raise_status(status);
+    } else {
+        list = copied ? list_of(copied, lines.count) : PyErr_NoMemory();
+    }
+    free(copied);
+    return list;
+}

@@ -1,0 +1,359 @@
+"""Tests of globset.ignore: what rules decide, what objects refuse, and threads."""
+
+import copy
+import doctest
+import gc
+import os
+import pathlib
+import pickle
+import random
+import signal
+import subprocess
+import tempfile
+import threading
+import unittest
+import weakref
+from unittest import mock
+
+import globset
+from globset import IgnoreRules, IgnoreStack, ignore
+from globset.ignore import Decision
+from test_globset import IS_CTYPES, TextPath
+
+# Lines, a path, and the decision by git's rule, by the nearest decision, and about the path alone: the line, which is negative if
+# it has `!`, or 0. From docs/GIT_IGNORE.md, and from `git check-ignore`.
+DECISIONS = [
+    (["*.o"], "a.o", 1, 1, 1),
+    (["*.o"], "src/a.o", 1, 1, 1),
+    (["*.o", "!a.o"], "a.o", -2, -2, -2),
+    (["/a.o"], "src/a.o", 0, 0, 0),
+    (["build/"], "build", 0, 0, 0),
+    (["build/"], "build/", 1, 1, 1),
+    (["build/"], "build/a.c", 1, 1, 0),
+    (["/src", "!/src/a"], "src/a", 1, -2, -2),
+    (["/src", "!/src/a"], "src/a/b", 1, -2, 0),
+    (["!/src/a", "/src"], "src/a/b", 2, -1, 0),
+    (["*", "!a/"], "a/", -2, -2, -2),
+    (["!a/"], "a/b", 0, -1, 0),
+    (["# *", "", "\\#a", "\\!a"], "#a", 3, 3, 3),
+    (["a/**/b"], "a/x/y/b", 1, 1, 1),
+    (["é?"], "éa", 1, 1, 1),
+    ([b"a\xff*"], b"a\xffb", 1, 1, 1),
+    (["a\r\n", "b \n"], "b", 2, 2, 2),
+]
+BY = ["git", "nearest", "path"]
+
+
+def line_of(decision):
+    return 0 if decision is None else -decision.line if decision.negated else decision.line
+
+
+class Rules(unittest.TestCase):
+    def test_decisions(self):
+        for lines, path, *wanted in DECISIONS:
+            with self.subTest(lines=lines, path=path):
+                rules = IgnoreRules(lines)
+                self.assertEqual([line_of(rules.decide(path, by=by)) for by in BY], wanted)
+                self.assertEqual([rules.is_ignored(path, by=by) for by in BY], [line > 0 for line in wanted])
+                for by, line in zip(BY, wanted):
+                    self.assertEqual(rules.decide_many([path, path], by), [None if line == 0 else line > 0] * 2)
+                    self.assertEqual(rules.filter([path, path], by=by), [] if line > 0 else [path] * 2)
+
+    def test_forms_of_a_file(self):
+        for lines in [["a", "!b"], ["a\n", b"!b\n"], "a\n!b", b"a\n!b\n", ("a\r\n", "!b"), iter(["a", "!b"])]:
+            rules = IgnoreRules(lines)
+            self.assertEqual((rules.decide("a"), rules.decide("b")), (Decision(0, 1, False), Decision(0, 2, True)))
+        with tempfile.TemporaryFile("w+") as file:
+            file.write("x\na\n")
+            file.seek(0)
+            self.assertEqual(IgnoreRules(file).decide("a"), Decision(0, 2, False))
+        for empty in ["", b"", [], [""], ["\n", "# a"]]:
+            self.assertIsNone(IgnoreRules(empty).decide("a"))
+        with self.assertRaisesRegex(ValueError, "^line 2 has a line feed before its end$"):
+            IgnoreRules(["a", "b\nc"])
+        for lines, said in [
+            (7, "^an ignore file is str, bytes or an iterable of lines, not int$"),
+            (pathlib.Path("a"), "an iterable of lines, not PosixPath$"),
+            (["a", 7], "^line 2 is str or bytes, not int$"),
+            (bytearray(b"a"), "^line 1 is str or bytes, not int$"),
+        ]:
+            with self.assertRaisesRegex(TypeError, said):
+                IgnoreRules(lines)
+        with self.assertRaises(UnicodeEncodeError):
+            IgnoreRules("\ud800")
+
+    def test_paths(self):
+        rules = IgnoreRules(["a/", "b", b"\xff"])
+        for path in ["a/", b"a/", TextPath("a/"), TextPath(b"a/")]:
+            self.assertTrue(rules.is_ignored(path))
+            self.assertTrue(rules.is_ignored(path, is_dir=True))
+            with self.assertRaisesRegex(ValueError, "^a path that ends with / is that of a directory$"):
+                rules.is_ignored(path, is_dir=False)
+        self.assertEqual([rules.is_ignored("a", is_dir) for is_dir in (None, False, True)], [False, False, True])
+        self.assertEqual([rules.is_ignored("b", is_dir) for is_dir in (None, False, True)], [True] * 3)
+        self.assertTrue(rules.is_ignored(pathlib.Path("c/b")) and rules.is_ignored(os.fsdecode(b"\xff")))
+        paths = [pathlib.Path("c/b"), "c", "a/", b"\xff"]
+        self.assertEqual(rules.filter(paths), ["c"])
+        self.assertEqual(rules.filter(iter(paths)), ["c"])
+        self.assertEqual((rules.filter([]), rules.decide_many(())), ([], []))
+        self.assertEqual(rules.decide_many(["c", "b"] * 5000), [None, True] * 5000)
+        for call in [rules.filter, rules.decide_many]:
+            for paths in ["b", b"b", 7, ["b", 7]]:
+                self.assertRaises(TypeError, call, paths)
+        for call in [rules.is_ignored, rules.decide]:
+            self.assertRaises(TypeError, call, 7)
+            self.assertRaises(UnicodeEncodeError, call, "\ud800")
+
+    def test_by(self):
+        rules = IgnoreRules("a")
+        for by in ["", "Git", 0, None, []]:
+            for call in [rules.is_ignored, rules.decide]:
+                with self.assertRaisesRegex(ValueError, "^by is 'git', 'nearest' or 'path', not "):
+                    call("a", by=by)
+            for call in [rules.filter, rules.decide_many]:
+                with self.assertRaisesRegex(ValueError, "^by is 'git', 'nearest' or 'path', not "):
+                    call(["a"], by=by)
+
+    def test_case(self):
+        self.assertEqual([IgnoreRules("*.O", ignore_case=case).is_ignored("a.o") for case in (False, True)], [False, True])
+        stack = IgnoreStack(ignore_case=True)
+        stack.add_file("A")
+        self.assertTrue(stack.is_ignored("a"))
+
+    def test_unread_lines(self):
+        self.assertEqual(IgnoreRules(["[a", "a", "", "# [", "b\\", "!["]).unread_lines(), [1, 5, 6])
+        self.assertEqual(IgnoreRules("").unread_lines(), [])
+        self.assertFalse(IgnoreRules("[a").is_ignored("[a"))
+
+    def test_copies(self):
+        rules = IgnoreRules(["a", "b"], ignore_case=True)
+        self.assertEqual(rules, IgnoreRules("a\nb\n", ignore_case=True))
+        self.assertEqual(len({rules, IgnoreRules("a\nb\n", ignore_case=True), IgnoreRules("a\nb\n")}), 2)
+        self.assertNotEqual(rules, "a")
+        for copied in [copy.copy(rules), copy.deepcopy(rules), pickle.loads(pickle.dumps(rules))]:
+            self.assertEqual(copied, rules)
+            self.assertTrue(copied.is_ignored("B"))
+        self.assertEqual(repr(rules), "IgnoreRules(b'a\\nb\\n', ignore_case=True)")
+        self.assertEqual(eval(repr(rules)), rules)
+        self.assertIs(weakref.ref(rules)(), rules)
+
+
+class Stack(unittest.TestCase):
+    def test_files(self):
+        stack = IgnoreStack()
+        self.assertIsNone(stack.decide("a"))
+        stack.add_file("*.log\n/x/y")
+        stack.add_file("!top.log")
+        stack.enter("x")
+        self.assertEqual(stack.decide("y"), Decision(0, 2, False))
+        stack.add_file("!*.log")
+        self.assertEqual(stack.decide("a.log"), Decision(2, 1, True))
+        self.assertTrue(stack.is_ignored("y/a.log"))
+        self.assertFalse(stack.is_ignored("y/a.log", by="nearest"))
+        stack.enter(b"z/w")
+        self.assertEqual(stack.decide_many(["a.log", "a"]), [False, None])
+        stack.leave()
+        stack.leave()
+        self.assertEqual(stack.decide("top.log"), Decision(1, 1, True))
+        self.assertEqual(stack.filter(["a.log", "top.log"]), ["top.log"])
+        stack.leave()
+        stack.leave()
+        self.assertEqual(stack.decide("top.log"), Decision(1, 1, True))
+        for call in [stack.enter, stack.add_file]:
+            self.assertRaises(TypeError, call, 7)
+
+    def test_unread_lines(self):
+        stack = IgnoreStack()
+        stack.add_file("a\n[")
+        stack.add_file("[\n[")
+        self.assertEqual([stack.unread_lines(file) for file in range(2)], [[2], [1, 2]])
+        for file in [2, -1, 2**63, 2**200]:
+            with self.assertRaisesRegex(IndexError, "^there is no ignore file of this index$"):
+                stack.unread_lines(file)
+        self.assertRaises(TypeError, stack.unread_lines, "a")
+
+    def test_no_copies(self):
+        stack = IgnoreStack()
+        for call in [copy.copy, copy.deepcopy, pickle.dumps]:
+            with self.assertRaisesRegex(TypeError, "^IgnoreStack cannot be copied or pickled$"):
+                call(stack)
+        self.assertRaises((TypeError, ValueError), pickle.dumps, globset._binding.IgnoreFiles(0))
+
+    def test_base_class(self):
+        files = globset._binding.IgnoreFiles
+        for call in [lambda: files(2), lambda: files(0).decide("a", 0, 3), lambda: files(0).decide_many(["a"], 3)]:
+            self.assertRaises(RuntimeError, call)
+        for call in [lambda: files(), lambda: files("a"), lambda: files(0).add_file("a"), lambda: files(0).unread_lines("a")]:
+            self.assertRaises((TypeError, ctypes_error()), call)
+
+    @unittest.skipUnless(IS_CTYPES, "the functions of the library are no objects")
+    def test_statuses(self):
+        stack = IgnoreStack()
+        stack.add_file("a")
+        for name, call in [
+            ("ignore_new", IgnoreStack),
+            ("ignore_add_file", lambda: stack.add_file("b")),
+            ("ignore_enter", lambda: stack.enter("b")),
+            ("ignore_leave", stack.leave),
+            ("ignore_decide", lambda: stack.decide("a")),
+            ("ignore_decide_many", lambda: stack.decide_many(["a"])),
+            ("ignore_unread_lines", lambda: stack.unread_lines(0)),
+        ]:
+            with self.subTest(name=name):
+                with mock.patch.object(globset._library, name, return_value=3), self.assertRaises(MemoryError):
+                    call()
+                with mock.patch.object(globset._library, name, return_value=7), self.assertRaises(RuntimeError):
+                    call()
+                call()
+
+    @unittest.skipUnless(IS_CTYPES, "no code of Python runs in a call of the extension module")
+    def test_call_in_a_call(self):
+        """What is lent is not read on after a call that a handler made: that call is refused."""
+        stack, refused = IgnoreStack(), []
+        stack.add_file("[")
+        unread = globset._library.ignore_unread_lines
+
+        def interrupted(*arguments):
+            status = unread(*arguments)
+            for call in [stack.leave, lambda: stack.add_file("a"), lambda: stack.decide("a"), lambda: stack.unread_lines(0)]:
+                try:
+                    call()
+                except RuntimeError:
+                    refused.append(call)
+            return status
+
+        with mock.patch.object(globset._library, "ignore_unread_lines", interrupted):
+            self.assertEqual(stack.unread_lines(0), [1])
+        self.assertEqual(len(refused), 4)
+        self.assertEqual(stack.unread_lines(0), [1])
+
+
+class Threads(unittest.TestCase):
+    def test_threads(self):
+        """Threads use one object, and each call answers by the files that are there between two others."""
+        stack, rules, wrong = IgnoreStack(), IgnoreRules(["*.o", "!a.o"]), []
+        stack.add_file("*.log")
+
+        def ask(number):
+            for _ in range(100):
+                if rules.decide_many(["b.o", "a.o", "c"] * 50) != [True, False, None] * 50 or not stack.is_ignored("a.log"):
+                    wrong.append(number)
+                stack.enter("src")
+                stack.add_file(["*.c", "["])
+                stack.filter(["a.c", "b.log", "c"] * 100)
+                stack.leave()
+                if stack.unread_lines(0):
+                    wrong.append(number)
+
+        threads = [threading.Thread(target=ask, args=[number]) for number in range(4)]
+        for thread in threads:
+            thread.start()
+        for thread in threads:
+            thread.join()
+        self.assertEqual(wrong, [])
+        for _ in range(400):
+            stack.leave()
+        self.assertEqual(stack.decide_many(["a.log", "a.c"]), [True, None])
+
+    def test_calls_while_paths_are_read(self):
+        stack = IgnoreStack()
+        stack.add_file("a")
+
+        class Path:
+            def __fspath__(self):
+                stack.enter("b")
+                stack.add_file("c")
+                answers.append(stack.decide("a"))
+                stack.leave()
+                return "a"
+
+        answers = []
+        self.assertEqual(stack.decide(Path()), Decision(0, 1, False))
+        self.assertEqual(stack.decide_many([Path(), "c"]), [True, None])
+        self.assertEqual(len(stack.filter([Path(), "c", Path()])), 1)
+        stack.enter(Path())
+        self.assertEqual(answers, [Decision(0, 1, False)] * 5)
+
+    def test_list_that_changes(self):
+        rules, paths = IgnoreRules("a"), []
+
+        class Path:
+            def __fspath__(self):
+                paths.clear()
+                gc.collect()
+                return "a"
+
+        paths.extend([Path(), "a", "b"])
+        self.assertEqual(rules.decide_many(paths), [True, True, None])
+
+    @unittest.skipUnless(hasattr(signal, "setitimer"), "there are no timers")
+    def test_signals(self):
+        """A handler of a signal uses the object that the interrupted call uses."""
+        stack, count = IgnoreStack(), [0]
+        stack.add_file(["a", "["])
+
+        def handle(number, frame):
+            count[0] += 1
+            try:
+                assert stack.is_ignored("a") and stack.unread_lines(0) == [2]
+            except RuntimeError:
+                pass
+
+        before = signal.signal(signal.SIGALRM, handle)
+        try:
+            signal.setitimer(signal.ITIMER_REAL, 0.0005, 0.0005)
+            while count[0] < 50:
+                self.assertEqual((stack.is_ignored("a"), stack.unread_lines(0)), (True, [2]))
+                self.assertEqual(stack.filter(["a", "b"]), ["b"])
+        finally:
+            signal.setitimer(signal.ITIMER_REAL, 0)
+            signal.signal(signal.SIGALRM, before)
+
+
+def has_git():
+    try:
+        return subprocess.run(["git", "--version"], stdout=subprocess.DEVNULL).returncode == 0
+    except OSError:
+        return False
+
+
+class Git(unittest.TestCase):
+    @unittest.skipUnless(has_git(), "git is not there")
+    def test_random_files(self):
+        """Rules decide as git does."""
+        rng = random.Random(3)
+        pieces = ["a", "b", "*", "?", "/", "**/", "/**", "[ab]", "!", "\\a"]
+        paths = ["a", "b", "ab", "a/b", "b/a", "a/a/b", "b/ab/a", "ab/a"]
+        environment = {**os.environ, "GIT_CONFIG_GLOBAL": "/dev/null", "GIT_CONFIG_NOSYSTEM": "1"}
+        with tempfile.TemporaryDirectory() as top:
+            subprocess.run(["git", "init", "-q", top], check=True, env=environment)
+            for _ in range(60):
+                lines = ["".join(rng.choices(pieces, k=rng.randint(1, 4))) for _ in range(4)]
+                with open(os.path.join(top, ".gitignore"), "w", encoding="utf-8") as file:
+                    file.write("\n".join(lines))
+                ran = subprocess.run(
+                    ["git", "-C", top, "check-ignore", "--no-index", "-v", "-n", "--stdin"],
+                    input="\n".join(paths),
+                    stdout=subprocess.PIPE,
+                    env=environment,
+                    universal_newlines=True,
+                )
+                wanted = [said.split("\t")[0].split(":")[1] for said in ran.stdout.splitlines()]
+                decisions = map(IgnoreRules(lines).decide, paths)
+                self.assertEqual([str(decision.line) if decision else "" for decision in decisions], wanted, lines)
+
+
+class Documentation(unittest.TestCase):
+    def test_examples_of_the_documentation(self):
+        failed, tried = doctest.testmod(ignore)
+        self.assertEqual(failed, 0)
+        self.assertGreaterEqual(tried, 20)
+
+
+def ctypes_error():
+    """Returns the exception of ctypes for an argument of a wrong type, or one of the others."""
+    return globset._library.ctypes.ArgumentError if IS_CTYPES else TypeError
+
+
+if __name__ == "__main__":
+    unittest.main()

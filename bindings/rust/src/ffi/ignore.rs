@@ -1,0 +1,133 @@
+//! The ignores of the C library, which decide about paths by ignore files. The comments cite `globset_raw.h` as those of
+//! `src/ffi.rs` do, and rest on the same four promises.
+
+use std::slice;
+
+use super::{done, globset_raw_free, unexpected, Indexes, Owned, Status, DONE, NO, YES};
+
+/// The bit of the options, as in `globset.h`.
+pub(crate) const IGNORE_CASE: u32 = 1;
+
+const BAD_INDEX: Status = 11;
+
+extern "C" {
+    fn globset_raw_ignore_new(options: u32, out: *mut Owned) -> Status;
+    fn globset_raw_ignore_add_file(ignore: *mut Owned, file: *const u8, file_len: usize) -> Status;
+    fn globset_raw_ignore_enter(ignore: *mut Owned, name: *const u8, name_len: usize) -> Status;
+    fn globset_raw_ignore_leave(ignore: *mut Owned) -> Status;
+    fn globset_raw_ignore_decide(
+        ignore: *mut Owned,
+        path: *const u8,
+        path_len: usize,
+        is_directory: u32,
+        by: u32,
+        file: *mut usize,
+        line: *mut usize,
+    ) -> Status;
+    fn globset_raw_ignore_decide_many(
+        ignore: *mut Owned,
+        paths: *const u8,
+        paths_len: usize,
+        ends: *const usize,
+        ends_len: usize,
+        by: u32,
+        answers: *mut u8,
+        answers_len: usize,
+    ) -> Status;
+    fn globset_raw_ignore_unread_lines(ignore: *mut Owned, file: usize, lines: *mut Indexes) -> Status;
+}
+
+/// What the library tells of a path: whether it is ignored, and the file and the line of the rule that decides. The line is 0 if
+/// none does.
+pub(crate) struct Decided {
+    pub(crate) is_ignored: bool,
+    pub(crate) file: usize,
+    pub(crate) line: usize,
+}
+
+/// An ignore of the library: "a walk with its ignore files".
+pub(crate) struct Ignore(Owned);
+
+// SAFETY: "It may go to another thread, which then uses and frees it, if what the first thread did with it comes before, by a
+// lock, or by the start or the end of a thread." Whatever moves a value to another thread in safe Rust sees to that.
+unsafe impl Send for Ignore {}
+
+// SAFETY: A reference to an `Ignore` gives no call.
+unsafe impl Sync for Ignore {}
+
+impl Ignore {
+    pub(crate) fn new(options: u32) -> Ignore {
+        // SAFETY: "Makes an ignore: a walk in its top directory, without ignore files."
+        Ignore(Owned::made(|out| unsafe { globset_raw_ignore_new(options, out) }))
+    }
+
+    pub(crate) fn add_file(&mut self, file: &[u8]) {
+        // SAFETY: "Adds an ignore file of the directory that the walk is in, by its bytes, which are copied." The ignore is
+        // borrowed exclusively, here and below: "An owned object is in one call at a time."
+        done(unsafe { globset_raw_ignore_add_file(&mut self.0, file.as_ptr(), file.len()) })
+    }
+
+    pub(crate) fn enter(&mut self, name: &[u8]) {
+        // SAFETY: "Goes down into the directory of this name".
+        done(unsafe { globset_raw_ignore_enter(&mut self.0, name.as_ptr(), name.len()) })
+    }
+
+    pub(crate) fn leave(&mut self) {
+        // SAFETY: "Goes up to where the walk was before".
+        done(unsafe { globset_raw_ignore_leave(&mut self.0) })
+    }
+
+    pub(crate) fn decide(&mut self, path: &[u8], is_directory: bool, by: u32) -> Decided {
+        let (mut file, mut line) = (0, 0);
+        let (at, len, is_directory) = (path.as_ptr(), path.len(), u32::from(is_directory));
+        // SAFETY: "Whether the path, which is below the directory that the walk is in, is ignored, as `by` says."
+        match unsafe { globset_raw_ignore_decide(&mut self.0, at, len, is_directory, by, &mut file, &mut line) } {
+            YES => Decided { is_ignored: true, file, line },
+            NO => Decided { is_ignored: false, file, line },
+            status => unexpected(status),
+        }
+    }
+
+    /// A number for each path: 0 if no rule decides, 1 if a rule ignores it, and 2 if a rule keeps it. The paths are the bytes up
+    /// to each end, which have to be in order.
+    pub(crate) fn decide_many(&mut self, paths: &[u8], ends: &[usize], by: u32) -> Vec<u8> {
+        let mut answers = vec![0; ends.len()];
+        // SAFETY: "Decides about many paths".
+        done(unsafe {
+            globset_raw_ignore_decide_many(
+                &mut self.0,
+                paths.as_ptr(),
+                paths.len(),
+                ends.as_ptr(),
+                ends.len(),
+                by,
+                answers.as_mut_ptr(),
+                answers.len(),
+            )
+        });
+        answers
+    }
+
+    /// The lines of a file that git cannot read, or `None` if there is no file of this index.
+    pub(crate) fn unread_lines(&mut self, file: usize) -> Option<Vec<usize>> {
+        let mut lines = Indexes::none();
+        // SAFETY: "Lends the numbers of the lines of a file that git cannot read, ascending, from 1." What is handed in is valid,
+        // since there are none.
+        match unsafe { globset_raw_ignore_unread_lines(&mut self.0, file, &mut lines) } {
+            DONE if lines.count == 0 => Some(Vec::new()),
+            // SAFETY: "they may be read until the next call that the ignore is passed to", and are copied here.
+            DONE => Some(unsafe { slice::from_raw_parts(lines.at, lines.count) }.to_vec()),
+            BAD_INDEX => None,
+            status => unexpected(status),
+        }
+    }
+}
+
+impl Drop for Ignore {
+    fn drop(&mut self) {
+        let object = Owned { at: self.0.at };
+        // SAFETY: "Frees an object of any kind. The caller owns it, it is lent to nobody, and what it lends is not read any
+        // more." An ignore is never lent, lines are copied at once, and this is the only `free` of it.
+        unsafe { globset_raw_free(object) }
+    }
+}

@@ -1,0 +1,212 @@
+//! Ignore files, such as `.gitignore`, by the rules of git. It is an addition to the crate globset.
+//!
+//! An [`IgnoreStack`] is a walk through directories: it begins in the top directory, takes the ignore files of each directory that
+//! it enters, and forgets them as it leaves. It opens no files. Of the files of one directory the later one takes precedence, so a
+//! program that decides as git does adds, in the top directory, the file that `core.excludesFile` names, then
+//! `.git/info/exclude`, then `.gitignore`.
+//!
+//! A line of a file with a pattern is a rule. It ignores the paths that it matches, or keeps them if it begins with `!`. Of several
+//! rules the one in the deepest directory decides, and of those the last. A path is its bytes, with a `/` between components, and
+//! is relative to the directory that the walk is in. `docs/GIT_IGNORE.md` of the repository says all that a line can be.
+//!
+//! ```
+//! use globset::ignore::{By, IgnoreStack};
+//!
+//! let mut ignore = IgnoreStack::new();
+//! ignore.add_file("*.o\n/out/\n");
+//! assert!(ignore.is_ignored("out", true, By::Git));
+//!
+//! ignore.enter("src");
+//! ignore.add_file("!keep.o\n");
+//! assert!(ignore.is_ignored("a.o", false, By::Git));
+//! assert!(!ignore.is_ignored("keep.o", false, By::Git));
+//! ```
+
+use std::{fmt, os::unix::ffi::OsStrExt, path::Path};
+
+use crate::ffi::ignore::{Ignore, IGNORE_CASE};
+
+/// What decides about a path.
+#[derive(Clone, Copy, Debug, Eq, Hash, PartialEq)]
+pub enum By {
+    /// The rule of git: everything below an ignored directory is ignored, and no rule keeps it.
+    Git,
+    /// The rule that decides about the path, or else about the nearest directory above it about which a rule decides.
+    Nearest,
+    /// The rule that decides about the path alone. No directory above it counts.
+    Path,
+}
+
+/// What is decided about a path.
+#[derive(Clone, Copy, Debug, Eq, Hash, PartialEq)]
+pub enum Decision {
+    /// No rule decides.
+    Undecided,
+    /// A rule ignores the path.
+    Ignored,
+    /// A rule keeps the path: it begins with `!`.
+    Kept,
+}
+
+/// The rule that decides about a path.
+#[derive(Clone, Copy, Debug, Eq, Hash, PartialEq)]
+pub struct Rule {
+    /// The index of its file among those that are there, from 0, in the order in which they were added.
+    pub file: usize,
+    /// The number of its line, from 1.
+    pub line: usize,
+    /// Whether it ignores the path, and otherwise keeps it.
+    pub is_ignored: bool,
+}
+
+/// A walk through directories, with the ignore files of the directory that it is in and of those above it.
+///
+/// Time to decide is a pass over the path for each file and, unless it is [`By::Path`] that decides, such passes for each directory
+/// that the path names: so it is less for the name of an entry of the directory that the walk is in. A walk keeps the memory that it
+/// takes to decide for later calls.
+///
+/// Running out of memory ends the program in each call that allocates: in all of them except [`IgnoreStack::leave`].
+pub struct IgnoreStack {
+    ignore: Ignore,
+    /// How many files the top directory has, and each directory below it that the walk is in.
+    files: Vec<usize>,
+}
+
+impl By {
+    fn number(self) -> u32 {
+        match self {
+            By::Git => 0,
+            By::Nearest => 1,
+            By::Path => 2,
+        }
+    }
+}
+
+impl IgnoreStack {
+    /// A walk in its top directory, without ignore files.
+    pub fn new() -> IgnoreStack {
+        IgnoreStack::of(Ignore::new(0))
+    }
+
+    /// The same, in which ASCII letters match in both cases, as under the setting `core.ignoreCase` of git.
+    pub fn new_ignoring_case() -> IgnoreStack {
+        IgnoreStack::of(Ignore::new(IGNORE_CASE))
+    }
+
+    fn of(ignore: Ignore) -> IgnoreStack {
+        IgnoreStack { ignore, files: vec![0] }
+    }
+
+    /// Adds an ignore file of the directory that the walk is in, by its bytes. It takes precedence over the files that are there.
+    /// A line that git cannot read matches nothing: [`IgnoreStack::unread_lines`] tells these lines. Time and memory are linear in
+    /// the file.
+    pub fn add_file(&mut self, file: impl AsRef<[u8]>) {
+        self.ignore.add_file(file.as_ref());
+        if let Some(here) = self.files.last_mut() {
+            *here += 1;
+        }
+    }
+
+    /// Enters the directory of this name: one component, or several. It decides about the directory by [`By::Git`].
+    pub fn enter(&mut self, name: impl AsRef<Path>) {
+        self.ignore.enter(name.as_ref().as_os_str().as_bytes());
+        self.files.push(0);
+    }
+
+    /// Goes up to where the walk was before the last [`IgnoreStack::enter`], without the files that were added since. In the top
+    /// directory it does nothing.
+    pub fn leave(&mut self) {
+        self.ignore.leave();
+        if self.files.len() > 1 {
+            self.files.pop();
+        }
+    }
+
+    /// Whether a rule ignores the path.
+    pub fn is_ignored(&mut self, path: impl AsRef<Path>, is_dir: bool, by: By) -> bool {
+        self.ignore.decide(path.as_ref().as_os_str().as_bytes(), is_dir, by.number()).is_ignored
+    }
+
+    /// The rule that decides about the path, or `None` if no rule decides.
+    ///
+    /// ```
+    /// use globset::ignore::{By, IgnoreStack, Rule};
+    ///
+    /// let mut ignore = IgnoreStack::new();
+    /// ignore.add_file("# objects\n*.o\n!a.o\n");
+    /// assert_eq!(ignore.decide("b.o", false, By::Git), Some(Rule { file: 0, line: 2, is_ignored: true }));
+    /// assert_eq!(ignore.decide("a.o", false, By::Git), Some(Rule { file: 0, line: 3, is_ignored: false }));
+    /// assert_eq!(ignore.decide("a.c", false, By::Git), None);
+    /// ```
+    pub fn decide(&mut self, path: impl AsRef<Path>, is_dir: bool, by: By) -> Option<Rule> {
+        let decided = self.ignore.decide(path.as_ref().as_os_str().as_bytes(), is_dir, by.number());
+        let rule = Rule { file: decided.file, line: decided.line, is_ignored: decided.is_ignored };
+        (decided.line != 0).then_some(rule)
+    }
+
+    /// What is decided about each of many paths, in one call of the library. A path that ends with `/` is of a directory, and is
+    /// decided about without that `/`. The call takes a byte for each path, and the bytes of all paths.
+    ///
+    /// ```
+    /// use globset::ignore::{By, Decision, IgnoreStack};
+    ///
+    /// let mut ignore = IgnoreStack::new();
+    /// ignore.add_file("out/\n!a.o\n");
+    /// let decisions = ignore.decide_many(["out", "out/", "a.o"], By::Git);
+    /// assert_eq!(decisions, [Decision::Undecided, Decision::Ignored, Decision::Kept]);
+    /// ```
+    pub fn decide_many<I>(&mut self, paths: I, by: By) -> Vec<Decision>
+    where
+        I: IntoIterator,
+        I::Item: AsRef<Path>,
+    {
+        let (mut bytes, mut ends) = (Vec::new(), Vec::new());
+        for path in paths {
+            bytes.extend_from_slice(path.as_ref().as_os_str().as_bytes());
+            ends.push(bytes.len());
+        }
+        let answers = self.ignore.decide_many(&bytes, &ends, by.number());
+        let decisions = answers.into_iter().map(|answer| match answer {
+            0 => Decision::Undecided,
+            1 => Decision::Ignored,
+            _ => Decision::Kept,
+        });
+        decisions.collect()
+    }
+
+    /// How many files are there: those of the directory that the walk is in and of all above it.
+    pub fn file_count(&self) -> usize {
+        self.files.iter().sum()
+    }
+
+    /// The numbers of the lines that git cannot read, from 1, ascending, of the file of an index as in [`Rule`]. They match
+    /// nothing. `None` if there is no such file. Blank lines and comments are not among them.
+    ///
+    /// ```
+    /// use globset::ignore::IgnoreStack;
+    ///
+    /// let mut ignore = IgnoreStack::new();
+    /// ignore.add_file("a\n[b\nc\\\n");
+    /// assert_eq!(ignore.unread_lines(0), Some(vec![2, 3]));
+    /// assert_eq!(ignore.unread_lines(1), None);
+    /// ```
+    pub fn unread_lines(&mut self, file: usize) -> Option<Vec<usize>> {
+        self.ignore.unread_lines(file)
+    }
+}
+
+impl Default for IgnoreStack {
+    fn default() -> IgnoreStack {
+        IgnoreStack::new()
+    }
+}
+
+impl fmt::Debug for IgnoreStack {
+    /// Shows how deep the walk is, and the number of files.
+    fn fmt(&self, f: &mut fmt::Formatter<'_>) -> fmt::Result {
+        f.debug_struct("IgnoreStack")
+            .field("depth", &(self.files.len() - 1))
+            .field("files", &self.file_count())
+            .finish()
+    }
+}
