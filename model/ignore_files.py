@@ -210,3 +210,11 @@ def case(seed, number, count):
         paths = tuple(with_capitals(chance, path) for path in paths)
     made = {path for path in paths if chance.random() < 0.35} | {folder[:-1] for folder in folders if folder}
     return Case(files, paths, with_above(made), ignore_case)
+
+
+def case_of(text, count, ignore_case):
+    """Returns the case of an ignore file, and this many paths, most of which are made from its lines."""
+    chance = random.Random(text)
+    files = ((b"", text),)
+    paths = tuple(random_path(chance, files) for _ in range(count))
+    return Case(files, paths, with_above({path for path in paths if chance.random() < 0.35}), ignore_case)

@@ -11,6 +11,7 @@ mod walk;
 use crate::command::Command;
 use crate::fault::Fault;
 use crate::output::print_text;
+use crate::text_file::TextFile;
 use arguments::Arguments;
 use globs::Globs;
 use ignored::Ignored;
@@ -30,7 +31,9 @@ printed, nor is anything else that is neither a file nor a folder.
   -f FILE  globs from FILE as well, one a line; a line that is blank or begins with # has none
   -0       a path ends in NUL in place of LF
   --ignored  leaves out what .gitignore files on the way and .git/info/exclude ignore, and what is named .git; symbolic links
-           are printed; no GLOB is needed
+           are printed; a folder that is a repository of its own is printed with a slash, and not opened; no GLOB is needed
+  --excludes FILE  the same, with FILE as an ignore file for FOLDER that all others take precedence over, as git's setting
+           core.excludesFile names it
   --count  how many folders were opened and how many were left closed, on standard error
   --       what follows is FOLDER or a GLOB
   --help, --version
@@ -57,6 +60,9 @@ pub fn run(rt: &HostRuntime, arguments: &[String]) -> Result<ExitCode, Fault> {
 fn search(rt: &HostRuntime, arguments: &Arguments<'_>) -> Result<ExitCode, Fault> {
     let pending = first_pending(rt.alloc(), arguments.folder())?;
     let globs = Globs::read(rt, arguments)?;
-    let ignored = Ignored::new(rt.alloc(), arguments.flags.ignored);
+    let mut ignored = Ignored::new(rt.alloc(), arguments.flags.ignored);
+    for name in &arguments.excludes {
+        ignored.add_excludes(TextFile::read(rt, name)?.bytes())?;
+    }
     Walk::new(globs, ignored, pending, arguments.flags).run(rt)
 }

@@ -3,7 +3,7 @@
 use crate::fault::Fault;
 use std::alloc::Global;
 
-/// The options without `-f`.
+/// The options that have no argument.
 #[derive(Clone, Copy, Default)]
 pub struct Flags {
     pub case_insensitive: bool,
@@ -37,8 +37,10 @@ impl Flags {
 #[derive(Clone, Copy)]
 enum Next {
     Any,
-    /// The name of a file, after `-f`.
+    /// The name of a file of globs, after `-f`.
     File,
+    /// The name of an ignore file, after `--excludes`.
+    Excludes,
     /// No option, after `--`.
     Word,
 }
@@ -48,6 +50,8 @@ pub struct Arguments<'a> {
     pub flags: Flags,
     /// The names of the files of globs.
     pub files: Vec<&'a str>,
+    /// The names of ignore files for the directory, of which a later one takes precedence.
+    pub excludes: Vec<&'a str>,
     /// The directory, and then globs.
     pub words: Vec<&'a str>,
     next: Next,
@@ -59,6 +63,7 @@ impl Drop for Arguments<'_> {
         let Arguments {
             flags: _,
             files: _,
+            excludes: _,
             words: _,
             next: _,
         } = self;
@@ -84,6 +89,7 @@ impl<'a> Arguments<'a> {
         Arguments {
             flags: Flags::default(),
             files: Vec::new(alloc),
+            excludes: Vec::new(alloc),
             words: Vec::new(alloc),
             next: Next::Any,
         }
@@ -100,6 +106,10 @@ impl<'a> Arguments<'a> {
                 self.next = Next::Any;
                 Ok(self.files.push(argument)?)
             }
+            Next::Excludes => {
+                self.next = Next::Any;
+                Ok(self.excludes.push(argument)?)
+            }
         }
     }
 
@@ -107,6 +117,10 @@ impl<'a> Arguments<'a> {
     fn set(&mut self, option: &str) -> Result<(), Fault> {
         match option {
             "-f" => self.next = Next::File,
+            "--excludes" => {
+                self.flags.ignored = true;
+                self.next = Next::Excludes;
+            }
             "--" => self.next = Next::Word,
             name => {
                 if !self.flags.set(name) {
@@ -119,7 +133,7 @@ impl<'a> Arguments<'a> {
 
     /// Returns whether nothing is missing.
     fn is_complete(&self) -> bool {
-        let next_is_file = matches!(self.next, Next::File);
+        let next_is_file = matches!(self.next, Next::File | Next::Excludes);
         let has_filter = self.has_globs() || self.flags.ignored;
         let is_search = !self.folder().is_empty() && has_filter && !next_is_file;
         is_search || self.flags.help || self.flags.version

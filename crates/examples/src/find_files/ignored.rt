@@ -29,6 +29,25 @@ impl Ignored {
         Ignored { stack }
     }
 
+    /// Takes an ignore file of the first directory, before this is entered: later files take precedence.
+    pub fn add_excludes(&mut self, file: &[u8]) -> Result<(), AllocError> {
+        match &mut self.stack {
+            Some(stack) => stack.add_file(file),
+            None => Ok(()),
+        }
+    }
+
+    /// Returns whether a directory is a repository of its own, which git does not look into. Its path ends in `/`. In it there is a
+    /// directory `.git` with a file `HEAD`, or a file `.git`, which says where that directory is.
+    pub fn is_repository(&self, rt: &HostRuntime, folder: &str) -> Result<bool, AllocError> {
+        if self.stack.is_none() {
+            return Ok(false);
+        }
+        let head = format!(in rt.alloc(); "{folder}.git/HEAD")?;
+        let file = format!(in rt.alloc(); "{folder}.git")?;
+        Ok(is_file(rt, head.as_str()) || is_file(rt, file.as_str()))
+    }
+
     /// Returns whether an entry of this kind is printed as a file. git prints symbolic links, too.
     pub fn is_file(&self, kind: FileType) -> bool {
         kind.is_file() || (kind.is_symlink() && self.stack.is_some())

@@ -125,17 +125,40 @@ impl Walk {
         Ok(())
     }
 
-    /// Opens a directory, or prints the path of a file.
+    /// Opens a directory, or prints the path of a file or of a repository in the first directory.
     fn visit<W: Write>(
         &mut self,
         rt: &HostRuntime,
         path: &str,
         output: &mut W,
     ) -> Result<(), Fault> {
-        if path.ends_with('/') {
-            self.open(rt, path)
-        } else {
+        if !path.ends_with('/') {
             self.print(path, output)
+        } else if self.is_nested(rt, path)? {
+            self.print_repository(path, output)
+        } else {
+            self.open(rt, path)
+        }
+    }
+
+    /// Returns whether a directory below the first one is a repository of its own.
+    fn is_nested(&self, rt: &HostRuntime, folder: &str) -> Result<bool, AllocError> {
+        if self.shown(folder).is_empty() {
+            Ok(false)
+        } else {
+            self.ignored.is_repository(rt, folder)
+        }
+    }
+
+    /// Leaves a repository closed, and prints its path if it matches.
+    fn print_repository<W: Write>(&mut self, path: &str, output: &mut W) -> Result<(), Fault> {
+        self.left_closed = self.left_closed.saturating_add(1);
+        let below = self.shown(path);
+        let name = below.strip_suffix('/').unwrap_or(below);
+        if self.globs.wanted(name).is_file {
+            self.print(path, output)
+        } else {
+            Ok(())
         }
     }
 
