@@ -88,6 +88,17 @@ class Release:
                 file.writelines(f"{name}\n" for name in names)
         return root + INSTALLED_CRATES
 
+    def programs(self, packages, root):
+        """Unpacks packages that need no others than these."""
+        archives = os.path.join(self.folder, "packages")
+        os.makedirs(archives, exist_ok=True)
+        missing = [name for name in packages if not glob.glob(f"{archives}/{name}_*.deb")]
+        if missing:
+            self.update()
+            self.apt_get("download", *missing, cwd=archives)
+        for name in packages:
+            subprocess.run(["dpkg-deb", "--extract", self.archive(name), root], check=True)
+
     def unpacked(self, packages, root):
         """A folder of the crates in these packages and in those that they need, and no others."""
         self.crates(packages)

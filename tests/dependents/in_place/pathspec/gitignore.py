@@ -1,0 +1,3 @@
+from globset.pathspec import GitIgnoreSpec
+
+__all__ = ["GitIgnoreSpec"]

@@ -1,0 +1,3 @@
+from globset.pathspec import PathSpec
+
+__all__ = ["PathSpec"]
