@@ -282,7 +282,7 @@ class GitIgnoreSpec(PathSpec):
     _by: By = "git"
 
     @classmethod
-    def from_lines(  # type: ignore[override, unused-ignore]
+    def from_lines(  # type: ignore[override]
         cls: Type[_AnySpec],
         lines: Union[Iterable[_Line], _Factory],
         pattern_factory: Union[Iterable[_Line], _Factory, None] = None,
