@@ -1,4 +1,4 @@
--- Ignore files of nested folders, and the rule of theirs that decides. Paths begin in a top folder.
+-- Ignore files of nested folders, and which of their rules decides about a path. Paths begin in a top folder.
 use Rattle.std.specs.Prelude.{ℕ, suc, Bool, List, [], ◌∷◌, length, take, drop, Option, None, if◌then◌else◌}
 use Rattle.std.specs.Str.{bytes_eq}
 use Rattle.git_ignore.specs.Rules.{deciding_rule}
@@ -16,11 +16,11 @@ pub record IgnoreFile : Type 0 where
 abbrev pub is_in : List ℕ → List ℕ → Bool
 is_in folder path = bytes_eq (take (length folder) path) folder
 
--- the rule of a file of this index, for a path below its folder
+-- the rule of a file that decides about a path below its folder; the file has this index
 abbrev pub file_rule : ℕ → List ℕ → Bool → IgnoreFile → Option DecidingRule
 file_rule index path is_folder file = if is_in file.folder path then deciding_rule file.ignore_case file.bytes index (drop (length file.folder) path) is_folder else None
 
--- the rule of the last of these files that has any, where the first has this index
+-- the rule of the last of these files that has one; the first file has this index
 abbrev pub rule_from : ℕ → List IgnoreFile → List ℕ → Bool → Option DecidingRule
 rule_from index [] path is_folder = None
 rule_from index (file ∷ files) path is_folder = or_else (rule_from (suc index) files path is_folder) (file_rule index path is_folder file)

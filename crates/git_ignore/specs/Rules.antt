@@ -1,4 +1,4 @@
--- The rules of an ignore file, and the rule of a file that decides about a path below the file's folder. Git compares without regard
+-- The rules of an ignore file, and which of them decides about a path below the file's folder. Git compares without regard
 -- to case where its setting `core.ignoreCase` is set: `ignore_case` is that setting.
 use Rattle.std.specs.Prelude.{ℕ, suc, Bool, not, ◌&&◌, ◌||◌, List, [], ◌∷◌, Option, Some, None, if◌then◌else◌}
 use Rattle.ignore_pattern.specs.Lines.{file_lines}
@@ -32,12 +32,12 @@ last_rule ignore_case path is_folder [] = None
 last_rule ignore_case path is_folder (rule ∷ rules) = elim (last_rule ignore_case path is_folder rules)
     [ Some last ↦ Some last | None ↦ if applies ignore_case path is_folder rule then Some rule else None ]
 
--- what is told of a rule in the file of this index
+-- The rule that decides, as calls return it: the index of its file, the number of its line, and whether it is negated.
 abbrev pub told : ℕ → Option Rule → Option DecidingRule
 told file None = None
 told file (Some rule) = Some (record { file = file; line = rule.line; is_negated = rule.pattern.negated })
 
--- The rule of an ignore file, of this index among several, that decides about a path: the last that applies.
+-- The rule of an ignore file that decides about a path: the last that applies. The file has this index among several.
 unfoldable pub deciding_rule : Bool → List ℕ → ℕ → List ℕ → Bool → Option DecidingRule
 deciding_rule ignore_case file index path is_folder = told index (last_rule ignore_case path is_folder (rules_of file))
 

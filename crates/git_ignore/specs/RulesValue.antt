@@ -11,7 +11,7 @@ pub record RulesValue : Type 0 where
   pub states : ℕ
   pub rules : ℕ
 
--- the rule of rules that decides about a path, if they are those of one file alone
+-- the rule that decides about a path alone; the only file has the index 0
 abbrev pub rules_rule : RulesValue → List ℕ → Bool → Option DecidingRule
 rules_rule rules = deciding_rule rules.ignore_case rules.file 0
 

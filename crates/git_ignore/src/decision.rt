@@ -25,7 +25,7 @@ impl Decision {
     }
 }
 
-/// By what a path and the folders above it are decided about.
+/// How the folders above a path count for the decision about it.
 #[derive(Clone, Copy, Debug, PartialEq, Eq)]
 pub enum DecideBy {
     /// Git's rule: everything below an ignored folder is ignored, and no rule keeps it. That a folder is kept says nothing about its
@@ -42,7 +42,8 @@ pub enum DecideBy {
 /// The rule that decides about a path.
 #[derive(Clone, Copy, Debug, PartialEq, Eq)]
 pub struct DecidingRule {
-    /// The index of its file: of the files of a walk, from the top folder down, and in a folder in the order of their additions.
+    /// The index of its file, from 0. The files of a walk stand from the top folder down, and those of a folder in the order in which
+    /// they were added. The only file of [`crate::Rules`] has the index 0.
     pub file: usize,
     /// The number of its line, counted from 1.
     pub line: usize,

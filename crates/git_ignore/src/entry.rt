@@ -37,7 +37,7 @@ impl RuleEntry {
     }
 }
 
-/// Returns what is told of an entry of the file with this index.
+/// Returns the rule that decides, by the index of its file and its entry.
 pub fn told_of(file: usize, entry: Option<RuleEntry>) -> Option<DecidingRule>
     ensures { result ≡ told_of file entry }
 {

@@ -47,7 +47,7 @@ impl FolderRules {
         self.rules.unread_lines()
     }
 
-    /// Returns the rule of the file, which has this index, that decides about a path, which begins in the top folder.
+    /// Returns the rule of the file that decides about a path alone. The file has this index, and the path begins in the top folder.
     fn deciding_rule(
         &self,
         index: usize,

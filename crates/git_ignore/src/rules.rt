@@ -46,7 +46,7 @@ impl Model for Rules {
 
 impl Rules {
     /// Reads an ignore file, given by its bytes. Each line has a rule or none. Lines that git cannot read have none, which is no
-    /// error: [`Rules::unread_lines`] returns their numbers. [`crate::RulesBuilder`] has an option.
+    /// error: [`Rules::unread_lines`] returns their numbers. [`crate::RulesBuilder`] has the option to ignore case.
     ///
     /// It takes time and memory linear in the bytes, except for classes: each item of a class takes 256 steps.
     pub fn new(alloc: Global, file: &[u8]) -> Result<Rules, AllocError>

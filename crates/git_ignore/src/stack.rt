@@ -29,7 +29,8 @@ pub struct FolderLevel {
 ///
 /// A walk begins in its top folder. [`IgnoreStack::enter`] goes down into a folder, [`IgnoreStack::leave`] goes up, and
 /// [`IgnoreStack::add_file`] reads an ignore file of the folder that the walk is in. Files of deeper folders take precedence, and
-/// in a folder the file that was added last.
+/// in a folder the file that was added last. So in the top folder the file that git's setting `core.excludesFile` names comes first,
+/// then `.git/info/exclude`, and then `.gitignore`.
 ///
 /// [`IgnoreStack::decide`] decides by git's rule: everything below an ignored folder is ignored, and no rule keeps it.
 /// [`IgnoreStack::decide_nearest`] decides by the nearest decision.
@@ -85,7 +86,8 @@ impl Drop for IgnoreStack {
 }
 
 impl IgnoreStack {
-    /// Returns a walk in its top folder, which has no ignore files yet. It allocates nothing. [`crate::RulesBuilder`] has an option.
+    /// Returns a walk in its top folder, which has no ignore files yet. It allocates nothing. [`crate::RulesBuilder`] has the option
+    /// to ignore case.
     pub fn new(alloc: Global) -> IgnoreStack
         ensures { result ≡ at_top false }
     {
@@ -197,7 +199,8 @@ impl IgnoreStack {
     /// Returns the rule that decides about a path below the current folder, as `git check-ignore -v` tells it, or `None` if no rule
     /// does. Below an ignored folder, by git's rule, it is the rule that ignores the highest such folder.
     ///
-    /// The call allocates and takes time as [`IgnoreStack::decide`] and [`IgnoreStack::decide_nearest`] do.
+    /// The call allocates and takes time as [`IgnoreStack::decide`] and [`IgnoreStack::decide_nearest`] do; about the path alone, it
+    /// takes a pass over the path for each ignore file above it.
     ///
     /// ```rust
     /// use git_ignore::{DecideBy, DecidingRule, IgnoreStack};

@@ -204,8 +204,7 @@ fn nearest_decision_of_nested_files(rt: HostRuntime) -> Result<(), AllocError> {
     Ok(())
 }
 
-/// Each path below `a`, with the file and the line that `git check-ignore -v` prints for it; it prints none for a path that is kept
-/// by no rule.
+/// Each path below `a`, with the file and the line that `git check-ignore -v` prints for it, or `None` if no rule decides about it.
 const BY_FILES: [(&[u8], bool, Option<(usize, usize)>); 7] = [
     (b"x.tmp", false, Some((0, 1))),
     (b"y.tmp", false, Some((2, 1))),

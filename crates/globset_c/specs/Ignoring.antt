@@ -15,11 +15,11 @@ AreIgnoreOptions n = n < 2
 abbrev pub ignores_case : ℕ → Bool
 ignores_case n = n == 1
 
--- the number says by what a path is decided about
+-- the number stands for a variant of `DecideBy`
 abbrev pub IsDecideBy : ℕ → Type 0
 IsDecideBy n = n < 3
 
--- by what the number says
+-- the variant that the number stands for
 abbrev pub decide_by : ℕ → DecideBy
 decide_by n = if n == 0 then Git else (if n == 1 then Nearest else PathAlone)
 
@@ -48,12 +48,12 @@ decision_byte None = 0
 decision_byte (Some rule) = if rule.is_negated then 2 else 1
 
 -- the path ends with `/`
-abbrev pub has_slash : List ℕ → Bool
-has_slash path = bytes_eq (drop (length path - 1) path) (47 ∷ [])
+abbrev pub ends_with_slash : List ℕ → Bool
+ends_with_slash path = bytes_eq (drop (length path - 1) path) (47 ∷ [])
 
 -- The decision about one of many paths. One that ends with `/` is of a folder, and the `/` does not belong to it.
 abbrev pub decision_for : StackValue → ℕ → List ℕ → ℕ
-decision_for s by path = decision_byte (if has_slash path then stack_rule s (decide_by by) (take (length path - 1) path) true else stack_rule s (decide_by by) path false)
+decision_for s by path = decision_byte (if ends_with_slash path then stack_rule s (decide_by by) (take (length path - 1) path) true else stack_rule s (decide_by by) path false)
 
 -- the decision about each path
 abbrev pub decisions_for : StackValue → ℕ → List ℕ → ℕ → List ℕ → List ℕ

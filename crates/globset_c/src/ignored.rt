@@ -123,7 +123,7 @@ fn tell(rule: Option<DecidingRule>, file: &mut usize, line: &mut usize) -> Statu
     }
 }
 
-/// Returns by what the number says that a path is decided about.
+/// Returns the variant of [`DecideBy`] that the number stands for.
 pub fn decide_by(number: u32) -> DecideBy
     ensures { result ≡ decide_by number }
 {

@@ -25,7 +25,7 @@ abbrev pub entry_of_rule : Option Rule → Option RuleEntry
 entry_of_rule None = None
 entry_of_rule (Some rule) = Some (entry_of rule)
 
--- what is told of an entry of the file with this index
+-- the rule that decides, by the index of its file and its entry
 abbrev pub told_of : ℕ → Option RuleEntry → Option DecidingRule
 told_of file None = None
 told_of file (Some e) = Some (record { file = file; line = e.line; is_negated = e.is_negated })
