@@ -2,10 +2,10 @@
  * proved.
  *
  * It tests pointers for null, passes texts and objects on, and turns statuses into results. A pointer to a glob, a set,
- * a builder, a searcher or an ignore is the address in the raw handle of the object. That address stays the same: globs
- * and sets are lent alone, and the calls on builders, searchers and ignores reach the object through the handle, which they do not write
- * (`Owned::as_mut` in crates/globset_c). Only calls that take a work write a handle, so a matcher is a struct that
- * keeps the handles of its two objects. */
+ * a builder, a searcher or a walk is the address in the raw handle of the object. That address stays the same: globs
+ * and sets are lent alone, and the calls on builders, searchers and walks reach the object through the handle, which
+ * they do not write (`Owned::as_mut` in crates/globset_c). Only calls that take a work write a handle, so a matcher is
+ * a struct that keeps the handles of its two objects. */
 #include "globset_raw.h"
 
 #include "allocator.h"

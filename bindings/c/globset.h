@@ -7,16 +7,17 @@
  *
  * Objects. A glob is a text that was read, with its options. A set has many globs and is ready to match. A searcher is
  * a set with the memory that one thread needs to match, and a matcher is the same for one glob. A builder takes globs
- * one by one and makes a set of them. Answers are what a question about all paths found. An ignore is a walk with its
- * ignore files. Each object is made by a function that writes a pointer to it, and freed once, by the `_free` of its
- * kind, which does nothing with an object of another kind. An object keeps what it needs of those that it was made of: they may be freed before it.
+ * one by one and makes a set of them. Answers are what a question about all paths found. A walk, of the type
+ * `globset_ignore`, has the ignore files of directories. Each object is made by a function that writes a pointer to it,
+ * and freed once, by the `_free` of its kind, which does nothing with an object of another kind. An object keeps what
+ * it needs of those that it was made of: they may be freed before it.
  *
  * Results. A function whose name has `is_match`, `matches_all`, `can_match`, `has_path` or `is_ignored` answers a
- * question: it returns 1 for yes and 0 for no. Each other function with a result returns GLOBSET_OK, which is 0, if it did what it is for.
- * An error is below 0, and globset_status_text says what it means. A program compares an answer with 1, as in
- * `if (globset_set_is_match(..) == 1)`, since an error alone counts as true, and any other result with GLOBSET_OK. After
- * an error no object was made, and the pointer to it is null. Every object holds what it held before the call, and can
- * still be used.
+ * question: it returns 1 for yes and 0 for no. Each other function with a result returns GLOBSET_OK, which is 0, if it
+ * did what it is for. An error is below 0, and globset_status_text says what it means. A program compares an answer
+ * with 1, as in `if (globset_set_is_match(..) == 1)`, since an error alone counts as true, and any other result with
+ * GLOBSET_OK. After an error no object was made, and the pointer to it is null. Every object holds what it held before
+ * the call, and can still be used.
  *
  * Null. Each `_free` accepts null and does nothing. Where `error`, `index`, `path`, `length` or `rule` points to a result,
  * it may be null, and then the result is not written. Bytes and arrays may be null if they have no members. Any other null
@@ -339,8 +340,8 @@ void globset_answers_free(globset_answers *answers);
 
 /* ---- Ignore files ---- */
 
-/* An ignore decides about paths by ignore files, such as `.gitignore`, as git does. It is a walk through directories: it
- * begins in the top directory, takes the ignore files of each directory that it enters, and forgets them as it leaves.
+/* A walk decides about paths by ignore files, such as `.gitignore`, as git does. It begins in the top directory, takes the
+ * ignore files of each directory that it enters, and forgets them as it leaves.
  * git reads three kinds of files. Of the files of one directory the later one takes precedence, so a program adds, in the
  * top directory, the file that core.excludesFile names, then `.git/info/exclude`, then `.gitignore`:
  *
@@ -356,7 +357,7 @@ void globset_answers_free(globset_answers *answers);
  * ignores the paths that it matches, or keeps them if it begins with `!`. Of several rules the one in the deepest
  * directory decides, and of those the last. */
 
-/* The options of an ignore, as bits. */
+/* The options of a walk, as bits. */
 enum {
     GLOBSET_IGNORE_CASE = 1 /* ASCII letters match in both cases, as with the setting core.ignoreCase of git */
 };
@@ -379,7 +380,7 @@ typedef struct globset_rule {
     size_t line;
 } globset_rule;
 
-/* Makes an ignore in its top directory, without files. GLOBSET_EOPTIONS, GLOBSET_ENOMEM. */
+/* Makes a walk in its top directory, without files. GLOBSET_EOPTIONS, GLOBSET_ENOMEM. */
 GLOBSET_CHECKED int globset_ignore_new(uint32_t options, globset_ignore **ignore);
 
 /* Adds an ignore file of the directory that the walk is in, by its bytes, which are copied. It takes precedence over the
@@ -399,7 +400,7 @@ GLOBSET_CHECKED int globset_ignore_leave(globset_ignore *ignore);
  * the answer is 0 and the line is not 0, that rule keeps the path. After an error both members are 0. Time is a pass over
  * the path for each file and, unless `by` is GLOBSET_BY_PATH, such passes for each directory that the path names: so it
  * is less for the name of an entry of the directory that the walk is in. GLOBSET_EOPTIONS: `by` is none of those above.
- * GLOBSET_ENOMEM: the ignore keeps the memory that it takes for later calls. */
+ * GLOBSET_ENOMEM: the walk keeps the memory that it takes for later calls. */
 GLOBSET_CHECKED int globset_ignore_is_ignored(globset_ignore *ignore, const char *path, size_t length, int is_directory,
                                               uint32_t by, globset_rule *rule);
 
@@ -413,7 +414,7 @@ GLOBSET_CHECKED int globset_ignore_decide_many(globset_ignore *ignore, const cha
 
 /* Finds the lines of a file that git cannot read, such as `[a`, which match nothing. The file is that of an index as in
  * globset_rule. GLOBSET_OK: `lines` points to the numbers of the lines, ascending, from 1, and `count` says how many they
- * are. They may be read until the next call that the ignore is passed to. Blank lines and comments are not among them.
+ * are. They may be read until the next call that the walk is passed to. Blank lines and comments are not among them.
  * GLOBSET_EINDEX: there is no such file, and then `lines` is null and `count` is 0. It takes no memory. */
 GLOBSET_CHECKED int globset_ignore_unread_lines(globset_ignore *ignore, size_t file, const size_t **lines,
                                                 size_t *count);

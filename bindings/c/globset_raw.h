@@ -27,7 +27,7 @@
  *    may be used after the set was freed. It belongs to one thread at a time, and several threads make a searcher each.
  *    A question about one path takes no memory and cannot fail. A program that asks a set about many paths asks a
  *    searcher of it.
- *  - An ignore belongs to one thread at a time.
+ *  - A walk has the ignore files of directories. It belongs to one thread at a time.
  *
  * Texts and paths are bytes with a length. They need no NUL at the end and may have NULs inside. A path is any bytes.
  * The text of a glob has to be UTF-8, and the library tests that.
@@ -45,11 +45,11 @@
  *
  * What the library promises in every call: it reads and writes nothing else, it returns, it never ends the process, and
  * it keeps nothing of its arguments but what is said below. Running out of memory is the status GLOBSET_OUT_OF_MEMORY;
- * all objects then hold what they held before the call, but that a work or an ignore may have kept more memory for later
- * calls, and can be used on. The status
- * GLOBSET_WRONG_KIND comes exactly if an object is of another kind than the call asks for, and all objects are then as
- * they were; where a call takes ends of paths, a domain or what decides, these are looked at first. After any status but GLOBSET_DONE,
- * GLOBSET_NO and GLOBSET_YES no new object was made, and each result that has no sentence of its own is as it was.
+ * all objects then hold what they held before the call, but that a work or a walk may have kept more memory for later
+ * calls, and can be used on. The status GLOBSET_WRONG_KIND comes exactly if an object is of another kind than the call
+ * asks for, and all objects are then as they were; where a call takes ends of paths, a domain or what decides, these
+ * are looked at first. After any status but GLOBSET_DONE, GLOBSET_NO and GLOBSET_YES no new object was made, and each
+ * result that has no sentence of its own is as it was.
  */
 #ifndef GLOBSET_RAW_H
 #define GLOBSET_RAW_H
@@ -98,8 +98,8 @@ typedef struct globset_bytes {
     size_t count;
 } globset_bytes;
 
-/* Indexes that a work, a searcher or answers lend, and numbers of lines that an ignore lends. Before a call that writes them they have to be valid: with the count
- * 0 `at` is any address of a size_t. */
+/* Indexes that a work, a searcher or answers lend, and numbers of lines that a walk lends. Before a call that writes them
+ * they have to be valid: with the count 0 `at` is any address of a size_t. */
 typedef struct globset_indexes {
     const size_t *at;
     size_t count;
@@ -309,7 +309,7 @@ globset_status globset_raw_unreachable(globset_lent *globs, size_t globs_len, ui
 globset_status globset_raw_answers_at(globset_owned *answers, size_t index, globset_bytes *path,
                                       globset_indexes *indexes);
 
-/* Makes an ignore: a walk in its top directory, without ignore files. The only bit of options is GLOBSET_IGNORE_CASE.
+/* Makes a walk in its top directory, without ignore files. The only bit of options is GLOBSET_IGNORE_CASE.
  * GLOBSET_DONE, GLOBSET_UNKNOWN_OPTION, GLOBSET_OUT_OF_MEMORY. */
 globset_status globset_raw_ignore_new(uint32_t options, globset_owned *out);
 
@@ -344,7 +344,7 @@ globset_status globset_raw_ignore_decide_many(globset_owned *ignore, const uint8
 
 /* Lends the numbers of the lines of a file that git cannot read, ascending, from 1. The file is that of an index as
  * globset_raw_ignore_decide tells it. Blank lines and comments are not among them. It takes no memory. GLOBSET_DONE: they
- * may be read until the next call that the ignore is passed to, globset_raw_free too. The caller writes nothing there.
+ * may be read until the next call that the walk is passed to, globset_raw_free too. The caller writes nothing there.
  * GLOBSET_BAD_INDEX, GLOBSET_WRONG_KIND: `lines` has the count 0. */
 globset_status globset_raw_ignore_unread_lines(globset_owned *ignore, size_t file, globset_indexes *lines);
 

@@ -4,7 +4,7 @@
 
 enum { NONE = 0, MANY = 6 };
 
-/* An ignore with one file. */
+/* A walk with one file. */
 static globset_ignore *ignore_of(const char *file, uint32_t options) {
     globset_ignore *ignore;
     CHECK(globset_ignore_new(options, &ignore) == GLOBSET_OK);

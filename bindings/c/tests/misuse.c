@@ -266,7 +266,7 @@ static void no_builder(void *object, const globset_glob *glob) {
 }
 
 /* Passes an object to the `_free` of each other kind. The objects are a glob, a set, a searcher, a builder, a matcher,
- * answers and an ignore. */
+ * answers and a walk. */
 static void free_as_another(void *const *objects, int kind) {
     if (kind != 0) globset_glob_free((globset_glob *)objects[kind]);
     if (kind != 1) globset_set_free((globset_set *)objects[kind]);

@@ -116,7 +116,7 @@ static void relate(struct caller *caller) {
     globset_answers_free(made);
 }
 
-/* Asks the ignore of the thread, or has it enter a directory, with a file, and leave it. */
+/* Asks the walk of the thread, or has it enter a directory, with a file, and leave it. */
 static void walk(struct caller *caller) {
     size_t length, count, ends[2] = {(size_t)next(caller, 4), (size_t)next(caller, 4)};
     const char *bytes = text(caller, &length);

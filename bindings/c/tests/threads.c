@@ -1,5 +1,5 @@
 /* Eight threads read one set and one glob, and each makes a searcher and a matcher of its own. The searchers are freed
- * by another thread, after the set. Then eight threads make an ignore each, which another thread uses on and frees. */
+ * by another thread, after the set. Then eight threads make a walk each, which another thread uses on and frees. */
 #include "objects.h"
 
 #include <pthread.h>

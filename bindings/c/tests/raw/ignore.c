@@ -1,7 +1,7 @@
 /* Ignore files: globset_raw_ignore_.., with each status that they have, but GLOBSET_OUT_OF_MEMORY, which memory.c is for. */
 #include "raw.h"
 
-/* An ignore with one file. */
+/* A walk with one file. */
 static raw_ignore ignore_of(const char *file, uint32_t options) {
     raw_ignore ignore;
     CHECK(raw_ignore_new(options, &ignore) == GLOBSET_DONE);

@@ -166,7 +166,7 @@ static void try_relations(void) {
     for (int i = 0; i < GLOBS; i++) raw_glob_free(made[i]);
 }
 
-/* After a failure the ignore decides as before. Lines are read without memory, and a walk goes up without memory. */
+/* After a failure the walk decides as before. Lines are read without memory, and a walk goes up without memory. */
 static void try_ignore(void) {
     const size_t ends[] = {2, 6};
     uint8_t answers[2] = {7, 7};

@@ -45,7 +45,7 @@ pub(crate) struct Decided {
     pub(crate) line: usize,
 }
 
-/// An ignore of the library: "a walk with its ignore files".
+/// A walk of the library, which "has the ignore files of directories".
 pub(crate) struct Ignore(Owned);
 
 // SAFETY: "It may go to another thread, which then uses and frees it, if what the first thread did with it comes before, by a
@@ -57,12 +57,12 @@ unsafe impl Sync for Ignore {}
 
 impl Ignore {
     pub(crate) fn new(options: u32) -> Ignore {
-        // SAFETY: "Makes an ignore: a walk in its top directory, without ignore files."
+        // SAFETY: "Makes a walk in its top directory, without ignore files."
         Ignore(Owned::made(|out| unsafe { globset_raw_ignore_new(options, out) }))
     }
 
     pub(crate) fn add_file(&mut self, file: &[u8]) {
-        // SAFETY: "Adds an ignore file of the directory that the walk is in, by its bytes, which are copied." The ignore is
+        // SAFETY: "Adds an ignore file of the directory that the walk is in, by its bytes, which are copied." The walk is
         // borrowed exclusively, here and below: "An owned object is in one call at a time."
         done(unsafe { globset_raw_ignore_add_file(&mut self.0, file.as_ptr(), file.len()) })
     }
@@ -115,7 +115,7 @@ impl Ignore {
         // since there are none.
         match unsafe { globset_raw_ignore_unread_lines(&mut self.0, file, &mut lines) } {
             DONE if lines.count == 0 => Some(Vec::new()),
-            // SAFETY: "they may be read until the next call that the ignore is passed to", and are copied here.
+            // SAFETY: "they may be read until the next call that the walk is passed to", and are copied here.
             DONE => Some(unsafe { slice::from_raw_parts(lines.at, lines.count) }.to_vec()),
             BAD_INDEX => None,
             status => unexpected(status),
@@ -127,7 +127,7 @@ impl Drop for Ignore {
     fn drop(&mut self) {
         let object = Owned { at: self.0.at };
         // SAFETY: "Frees an object of any kind. The caller owns it, it is lent to nobody, and what it lends is not read any
-        // more." An ignore is never lent, lines are copied at once, and this is the only `free` of it.
+        // more." A walk is never lent, lines are copied at once, and this is the only `free` of it.
         unsafe { globset_raw_free(object) }
     }
 }
