@@ -23,7 +23,7 @@ pub struct StateSet {
 }
 
 impl StateSet {
-    ghost use Rattle.std.specs.Prelude.{◌≡◌, ℕ, ◌+◌, ◌<◌, ◌≤◌, ◌||◌, ◌==◌, false, IfOk, OnOk, IsOk};
+    ghost use Rattle.std.specs.Prelude.{◌≡◌, ℕ, ◌+◌, ◌<◌, ◌≤◌, ◌||◌, ◌==◌, false, IfOk, OnOk, IsOk, IsTrue};
     ghost use Rattle.bit_sets.specs.StateSets.{has_state, state_capacity, IsHighestBelow};
     ghost use Rattle.bit_sets.specs.Numbers.{AreBelow, has_number};
 
@@ -96,6 +96,13 @@ impl StateSet {
         for state in states {
             self.put(*state);
         }
+    }
+
+    /// Returns whether no state was put in since the set was made or cleared.
+    pub fn is_empty(&self) -> bool
+        ensures { IsTrue result → (s : ℕ) → has_state self.now s ≡ false }
+    {
+        self.last < self.first
     }
 
     /// Returns whether a state is in the set. It is a visit.

@@ -46,7 +46,6 @@ pub struct Builder {
 }
 
 impl Drop for Builder {
-    // One call wherever a value is dropped, which keeps proofs short.
     fn drop(self) {
         let Builder {
             states: _,

@@ -65,9 +65,11 @@ pub trait NeedsScratch {
 pub struct Scratch {
     states: usize,
     indexes: usize,
-    /// The states that an automaton is in that is stepped, for the calls that match.
+    // The states that an automaton is in that is stepped. Public for the calls that match, in the crates above.
+    #[doc(hidden)]
     pub sets: StateSets,
-    /// The indexes that are found, which are marked here, for the calls that match.
+    // The indexes that are found, which are marked here.
+    #[doc(hidden)]
     pub marks: IndexSet,
 }
 

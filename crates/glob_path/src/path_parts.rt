@@ -17,7 +17,6 @@ pub struct PathParts<'p> {
 }
 
 impl<'p> Drop for PathParts<'p> {
-    // One call wherever a value is dropped, which keeps proofs short.
     fn drop(self) {
         let PathParts {
             path: _,

@@ -207,7 +207,8 @@ impl GlobSet {
         }
     }
 
-    /// Returns the set that matches with this: for a crate that adds globs to a builder in turn, as `globset_c` does.
+    // Only for `globset_c`, whose globs are lent one by one.
+    #[doc(hidden)]
     pub fn of_matcher(matcher: Arc<SetMatcher>) -> GlobSet
         ensures globs { set_globs result ≡ set_globs (arc_value matcher).set }
         ensures matcher { set_globs (arc_value matcher).set ≢ [] → result ≡ (arc_value matcher).set }

@@ -6,6 +6,7 @@ pub mod After
 pub mod Ends
 pub mod Reading
 pub mod Listing
+pub mod Told
 pub mod Stepping
 pub mod Running
 pub mod Shared

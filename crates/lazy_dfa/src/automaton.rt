@@ -10,7 +10,7 @@ ghost use Rattle.byte_nfa.specs.Live.{AreLive};
 ghost use Rattle.lazy_dfa.specs.Sets.{sets_capacity};
 ghost use Rattle.lazy_dfa.specs.inner.Sources.{FitsU32, ListsEnds, RunsFor};
 
-use crate::lists::put_lowered;
+use crate::lists::tell_ends;
 use crate::stepping;
 use crate::stepping::StateSets;
 use bit_sets::{IndexSet, StateSet, Visits};
@@ -225,8 +225,7 @@ fn indexes_of(alloc: Global, automaton: &Nfa) -> Result<Vec<usize>, AllocError>
     let mut ends = IndexSet::new(alloc, automaton.index_count())?;
     automaton.ends(&mut all, &mut ends);
     let mut found = IndexSet::new(alloc, half)?;
-    put_lowered(&ends, 0, half, &mut found);
-    put_lowered(&ends, half, half, &mut found);
+    tell_ends(&ends, half, 0, &mut found);
     let mut indexes = Vec::new(alloc);
     found.push_below(half, &mut indexes)?;
     Ok(indexes)

@@ -112,8 +112,12 @@ impl Cache {
         ensures counted { visits.old ≤ visits.new }
     {
         let automaton = self.dfa.automaton();
+        let Some(place) = self.rows.known_start(automaton) else {
+            return false;
+        };
         self.rows
-            .find_known(automaton, self.dfa.indexes(), text, found, visits)
+            .find_from(automaton, place, self.dfa.indexes(), text, found, visits)
+            .is_none()
     }
 
     /// Returns whether a text leads to some end. It stops as soon as the rest cannot change that.

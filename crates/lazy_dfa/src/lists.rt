@@ -6,6 +6,7 @@ ghost use Rattle.bit_sets.specs.Numbers.{has_number, AreBelow};
 ghost use Rattle.bit_sets.specs.StateSets.{has_state, state_capacity};
 ghost use Rattle.lazy_dfa.specs.inner.Lists.{list_at, IsList};
 ghost use Rattle.lazy_dfa.specs.inner.Sources.{AreFound};
+ghost use Rattle.lazy_dfa.specs.inner.Told.{ToldBy};
 
 use bit_sets::{IndexSet, StateSet, Visits};
 
@@ -102,22 +103,6 @@ pub fn zeros_within(numbers: &mut Vec<u32>, count: usize)
     let _ = numbers.resize(numbers.len() + count, 0);
 }
 
-/// Puts the indexes of a set from `from` on, `count` at most, each less `from`, into another set, next to its contents.
-pub fn put_lowered(set: &IndexSet, from: usize, count: usize, into: &mut IndexSet)
-    requires fits { from + count < 2 ^ 64 }
-    requires room { count ≤ index_capacity into.old }
-    ensures room { index_capacity into.new ≡ index_capacity into.old }
-    ensures has { (k : ℕ)
-        → IsTrue (has_index into.new k)
-        ↔ (((k < count) × IsTrue (has_index set.now (from + k))) ⊎ IsTrue (has_index into.old k)) }
-{
-    let mut at = from;
-    while let Some(index) = set.next_below(at, from + count) {
-        into.put(index - from);
-        at = index + 1;
-    }
-}
-
 /// Puts the states of a list into a set, next to its contents.
 pub fn put_states(states: &[u32], into: &mut StateSet)
     requires { AreBelow (state_capacity into.old) states.now }
@@ -144,45 +129,49 @@ pub fn put_listed(numbers: &[u32], place: usize, into: &mut IndexSet)
     }
 }
 
-/// Puts the numbers of the list at a place from `half` on, each less `half`, into a set, next to its contents.
-pub fn put_marks(numbers: &[u32], place: usize, half: usize, into: &mut IndexSet)
+/// Puts what the ends of the indexes in the list at a place tell into a set, next to its contents, except ends of an index
+/// below `lowest`. There are twice `half` indexes.
+pub fn tell_listed(numbers: &[u32], place: usize, half: usize, lowest: usize, into: &mut IndexSet)
     requires list { IsList numbers.now (half + half) place }
     requires room { half ≤ index_capacity into.old }
     ensures room { index_capacity into.new ≡ index_capacity into.old }
     ensures has { (k : ℕ)
         → IsTrue (has_index into.new k)
-        ↔ (IsTrue (has_number (half + k) (list_at numbers.now place))
+        ↔ (ToldBy half (λ i. IsTrue (has_number i (list_at numbers.now place))) lowest k
         ⊎ IsTrue (has_index into.old k)) }
 {
     let count = numbers[place] as usize;
     for index in &numbers[place + 1..place + 1 + count] {
         let index = *index as usize;
-        if index >= half {
-            into.put(index - half);
+        if index >= lowest {
+            into.put(told_by(index, half));
         }
     }
 }
 
-/// Puts the numbers of the list at a place that are below `half`, and the others less `half`, into a set, next to its contents.
-pub fn put_found(numbers: &[u32], place: usize, half: usize, into: &mut IndexSet)
-    requires list { IsList numbers.now (half + half) place }
+/// Puts what the ends of the indexes in a set tell into another set, next to its contents, except ends of an index below
+/// `lowest`. There are twice `half` indexes.
+pub fn tell_ends(ends: &IndexSet, half: usize, lowest: usize, into: &mut IndexSet)
+    requires fits { half + half < 2 ^ 64 }
     requires room { half ≤ index_capacity into.old }
     ensures room { index_capacity into.new ≡ index_capacity into.old }
     ensures has { (k : ℕ)
         → IsTrue (has_index into.new k)
-        ↔ (((k < half) × (IsTrue (has_number k (list_at numbers.now place))
-        ⊎ IsTrue (has_number (half + k) (list_at numbers.now place))))
+        ↔ (ToldBy half (λ i. IsTrue (has_index ends.now i)) lowest k
         ⊎ IsTrue (has_index into.old k)) }
 {
-    let count = numbers[place] as usize;
-    for index in &numbers[place + 1..place + 1 + count] {
-        let index = *index as usize;
-        if index < half {
-            into.put(index);
-        } else {
-            into.put(index - half);
-        }
+    let mut at = lowest;
+    while let Some(index) = ends.next_below(at, half + half) {
+        into.put(told_by(index, half));
+        at = index + 1;
     }
+}
+
+/// Returns the index that an end of an automaton with early matches tells, which has twice `half` indexes.
+pub fn told_by(index: usize, half: usize) -> usize
+    ensures { ((index < half) × (result ≡ index)) ⊎ ((half ≤ index) × (result + half ≡ index)) }
+{
+    if index < half { index } else { index - half }
 }
 
 /// Returns how many indexes of a list, from its first on, are known to be in a set, where `from` are: it goes on up to the first

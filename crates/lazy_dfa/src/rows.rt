@@ -398,7 +398,9 @@ impl Rows {
         ensures ends { self.new.ends ≡ self.old.ends }
         ensures list { self.new.list ≡ self.old.list }
     {
-        if !self.has_marks(automaton) {
+        let half = automaton.index_count() / 2;
+        let has_marks = self.ends.next_below(half, half + half).is_some();
+        if !has_marks {
             return false;
         }
         self.keep_ends(automaton, row);
@@ -470,16 +472,6 @@ impl Rows {
             &mut self.ends,
             visits,
         );
-    }
-
-    /// Returns whether `ends` has an index that says that another is decided.
-    fn has_marks(&self, automaton: &Nfa) -> bool
-        ensures { IsTrue result
-            ↔ ((k : ℕ) × (k < half automaton.now)
-            × IsTrue (has_index self.now.ends (half automaton.now + k))) }
-    {
-        let half = automaton.index_count() / 2;
-        self.ends.next_below(half, half + half).is_some()
     }
 
     /// Returns an entry of a row.

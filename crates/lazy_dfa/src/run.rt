@@ -10,10 +10,10 @@ ghost use Rattle.byte_nfa.specs.Steps.{NfaValue, IsReached};
 ghost use Rattle.byte_nfa.specs.Runs.{size};
 ghost use Rattle.lazy_dfa.specs.inner.Sources.{half};
 ghost use Rattle.lazy_dfa.specs.inner.Rows.{AcceptsRow, AddsFound, IsAt, IsSound, FindsBy};
-ghost use Rattle.lazy_dfa.specs.inner.Reached.{HasRead, IsLeft, IsWhere, IsWhereFrom, MayHold};
+ghost use Rattle.lazy_dfa.specs.inner.Reached.{HasRead, IsLeft, IsWhere, IsWhereFrom};
 ghost use Rattle.lazy_dfa.specs.inner.Sources.{ListsEnds};
 
-use crate::lists::{found_count, put_lowered};
+use crate::lists::{found_count, tell_ends};
 use crate::rows::{GivenUp, REMEMBERED, Rows};
 use bit_sets::{IndexSet, StateSet, Visits};
 use byte_nfa::Nfa;
@@ -78,8 +78,7 @@ impl Rows {
             };
             if left.at == rest.len() {
                 if self.finish(automaton, left.place, visits) {
-                    put_lowered(&self.ends, half, half, found);
-                    put_lowered(&self.ends, 0, half, found);
+                    tell_ends(&self.ends, half, 0, found);
                 }
                 return;
             }
@@ -98,44 +97,12 @@ impl Rows {
         }
     }
 
-    /// Like [`Rows::find`] by entries that are known, from where a run begins. Returns whether all that it needs are known; if
-    /// not, some of the indexes are put into the set.
-    pub fn find_known(
-        &self,
-        automaton: &Nfa,
-        indexes: &[usize],
-        text: &[u8],
-        found: &mut IndexSet,
-        visits: &mut Visits,
-    ) -> bool
-        requires sound { IsSound automaton.now self.now }
-        requires room { half automaton.now ≤ index_capacity found.old }
-        requires listed { ListsEnds automaton.now indexes.now }
-        ensures room { index_capacity found.new ≡ index_capacity found.old }
-        ensures found { IsTrue result → (k : ℕ)
-            → IsTrue (has_index found.new k)
-            ↔ (FindsBy (half automaton.now) (IsReached automaton.now) text.now k
-            ⊎ IsTrue (has_index found.old k)) }
-        ensures some { MayHold automaton.now text.now found.old found.new }
-        ensures visits { visits.new ≤ visits.old + (length text.now + 1) }
-        ensures counted { visits.old ≤ visits.new }
-    {
-        if automaton.state_count() == 0 {
-            return true;
-        }
-        let Some(place) = self.known_start(automaton) else {
-            return false;
-        };
-        self.find_from(automaton, place, indexes, text, found, visits)
-            .is_none()
-    }
-
     /// Puts what is found in a text from the row at a place into a set, next to its contents, as far as entries are known.
     /// Returns where one is not.
     ///
     /// What a row has marks of is told when the row is left. A run remembers some rows whose marks were told, and does not tell these
     /// again when it comes back to them.
-    fn find_from(
+    pub fn find_from(
         &self,
         automaton: &Nfa,
         place: usize,
@@ -424,7 +391,7 @@ impl Rows {
             ⊎ IsTrue (has_index found.old k)) }
     {
         if has_marks {
-            put_lowered(&self.ends, half, half, found);
+            tell_ends(&self.ends, half, half, found);
         }
     }
 }

@@ -1,35 +1,25 @@
 //! Texts that are read by sets of states, without rows.
 
-ghost use Rattle.std.specs.Prelude.{◌≡◌, ℕ, ◌+◌, ◌*◌, ◌<◌, ◌≤◌, ◌||◌, ◌⊎◌, ◌↔◌, ◌++◌, ◌∷◌, [], List, length, min, Some, IsTrue, IsFalse, MatchOption, OnOk, IsOk};
+ghost use Rattle.std.specs.Prelude.{◌≡◌, ℕ, ◌+◌, ◌*◌, ◌<◌, ◌≤◌, ◌||◌, ◌⊎◌, ◌↔◌, ◌++◌, ◌∷◌, [], List, length, min, Some, None, IsTrue, IsFalse, IfSome, MatchOption, OnOk, IsOk};
 ghost use Rattle.bit_sets.specs.Indexes.{index_capacity};
 ghost use Rattle.bit_sets.specs.StateSets.{has_state, state_capacity};
 ghost use Rattle.bit_sets.specs.Texts.{AllBytes};
 ghost use Rattle.byte_nfa.specs.EarlyMatches.{EndsAtEarlyMatches};
 ghost use Rattle.byte_nfa.specs.Live.{AreLive};
-ghost use Rattle.byte_nfa.specs.Runs.{size, AcceptsFrom, HasSome};
+ghost use Rattle.byte_nfa.specs.Runs.{size, AcceptsFrom};
 ghost use Rattle.byte_nfa.specs.Steps.{NfaValue, state};
-ghost use Rattle.byte_nfa.specs.inner.Pass.{goes_now, goes_next};
+ghost use Rattle.byte_nfa.specs.inner.Pass.{goes_now, goes_next, names};
 ghost use Rattle.byte_nfa.specs.inner.Views.{GoesBelow};
 ghost use Rattle.lazy_dfa.specs.inner.Rows.{FindsBy};
 ghost use Rattle.lazy_dfa.specs.inner.Sources.{half};
-ghost use Rattle.lazy_dfa.specs.inner.Stepping.{IsTaken, IsLed, IsRunOn, IsUndecidedStep, DecidesSome, AddsDecided, AddsFoundFrom};
+ghost use Rattle.lazy_dfa.specs.inner.Stepping.{IsLed, IsRunOn, IsStepBy, HasEndFrom, EndsBelow, StepsBelow, AddsTold, AddsFoundFrom};
 ghost use Rattle.lazy_dfa.specs.Sets.{sets_capacity};
 
+use crate::lists::told_by;
 use bit_sets::{IndexSet, StateSet, Visits};
 use byte_nfa::Nfa;
 use std::alloc::{AllocError, Global};
 use std::mem::swap;
-
-/// What a state is, or does by a byte.
-#[derive(Clone, Copy)]
-enum Taken {
-    /// It is the end of an index.
-    End(usize),
-    /// It goes on to a state.
-    Next,
-    /// It goes on to none.
-    Nothing,
-}
 
 /// Where a text leads.
 #[derive(Clone, Copy)]
@@ -66,7 +56,7 @@ pub fn find(
     ensures counted { visits.old ≤ visits.new }
 {
     if run(automaton, text, from, to, found, visits) {
-        tell_ends(automaton, from, found, visits);
+        step(automaton, None, 0, from, to, found, visits);
     }
 }
 
@@ -95,10 +85,11 @@ pub fn run(
     ensures visits { visits.new ≤ visits.old + length text.now * size automaton.now }
     ensures counted { visits.old ≤ visits.new }
 {
+    let half = automaton.index_count() / 2;
     for byte in text {
-        let some = step(automaton, *byte, from, to, found, visits);
+        step(automaton, Some(*byte), half, from, to, found, visits);
         swap(from, to);
-        if !some {
+        if from.is_empty() {
             return false;
         }
     }
@@ -127,7 +118,7 @@ pub fn is_match(
     match read(automaton, text, from, to, visits) {
         Led::Decided => true,
         Led::NoState => false,
-        Led::States => has_end(automaton, from, visits),
+        Led::States => has_end(automaton, None, 0, from, to, visits),
     }
 }
 
@@ -162,11 +153,9 @@ pub fn can_match_after(
         Led::NoState => return false,
         Led::States => {}
     }
-    let Some(some) = step_undecided(automaton, byte, from, to, visits) else {
+    let half = automaton.index_count() / 2;
+    if has_end(automaton, Some(byte), half, from, to, visits) {
         return true;
-    };
-    if !some {
-        return false;
     }
     automaton.has_live(to, live, visits)
 }
@@ -187,31 +176,33 @@ pub fn read(
     ensures visits { visits.new ≤ visits.old + length text.now * size automaton.now }
     ensures counted { visits.old ≤ visits.new }
 {
+    let half = automaton.index_count() / 2;
     for byte in text {
-        let Some(some) = step_undecided(automaton, *byte, from, to, visits) else {
+        if has_end(automaton, Some(*byte), half, from, to, visits) {
             return Led::Decided;
-        };
+        }
         swap(from, to);
-        if !some {
+        if from.is_empty() {
             return Led::NoState;
         }
     }
     Led::States
 }
 
-/// Puts the states that a byte leads to from the states of a set into another set, and the indexes that are decided in the first
-/// into `found`, next to its contents. Returns whether there are states. What the other set held has no effect.
+/// Puts the states that a byte leads to from the states of a set into another set. Puts what the ends that the set leads to
+/// without a byte tell into `found`, next to its contents, except ends of an index below `lowest`. What the other set held has
+/// no effect.
 ///
-/// It reads each state at most once, from the highest on, and is at most one visit for each. What a state of `from` goes on to
-/// without a byte is put into `from`, before the pass comes to it.
+/// It reads each state at most once, and is at most one visit for each.
 fn step(
     automaton: &Nfa,
-    byte: u8,
+    byte: Option<u8>,
+    lowest: usize,
     from: &mut StateSet,
     to: &mut StateSet,
     found: &mut IndexSet,
     visits: &mut Visits,
-) -> bool
+)
     requires early { (source : NfaValue) × EndsAtEarlyMatches source automaton.now }
     requires from_capacity { size automaton.now ≤ state_capacity from.old }
     requires to_capacity { size automaton.now ≤ state_capacity to.old }
@@ -219,80 +210,95 @@ fn step(
     ensures from_capacity { state_capacity from.new ≡ state_capacity from.old }
     ensures to_capacity { state_capacity to.new ≡ state_capacity to.old }
     ensures room { index_capacity found.new ≡ index_capacity found.old }
-    ensures steps { (y : List ℕ) (k : ℕ)
-        → AcceptsFrom automaton.now from.old (byte ∷ y) k ↔ AcceptsFrom automaton.now to.new y k }
-    ensures some { IsTrue result ↔ HasSome automaton.now to.new }
-    ensures decided { AddsDecided automaton.now from.old found.old found.new }
+    ensures steps { IsStepBy automaton.now from.old byte to.new }
+    ensures told { AddsTold automaton.now from.old lowest found.old found.new }
     ensures visits { visits.new ≤ visits.old + size automaton.now }
     ensures counted { visits.old ≤ visits.new }
 {
     let half = automaton.index_count() / 2;
     to.clear();
-    let mut some = false;
     let mut limit = automaton.state_count();
-    while limit > 0 {
-        let seen = from.read_below(limit, visits);
-        let s = seen.at;
-        if seen.is_set {
-            match take(automaton, s, byte, from, to) {
-                Taken::End(index) => {
-                    if index >= half {
-                        found.put(index - half);
-                    }
-                }
-                Taken::Next => some = true,
-                Taken::Nothing => {}
-            }
-        }
-        limit = s;
+    while let Some(index) = next_end(automaton, byte, lowest, &mut limit, from, to, visits) {
+        found.put(told_by(index, half));
     }
-    some
 }
 
-/// Does what [`step`] does, except the indexes that are decided: returns `None` at the first of them.
-fn step_undecided(
+/// Returns whether the states of a set lead without a byte to an end of an index from `lowest` on. If they do not, the states
+/// that the byte leads to are in the other set. It has the cost of [`step`].
+fn has_end(
     automaton: &Nfa,
-    byte: u8,
+    byte: Option<u8>,
+    lowest: usize,
     from: &mut StateSet,
     to: &mut StateSet,
     visits: &mut Visits,
-) -> Option<bool>
-    requires early { (source : NfaValue) × EndsAtEarlyMatches source automaton.now }
+) -> bool
     requires from_capacity { size automaton.now ≤ state_capacity from.old }
     requires to_capacity { size automaton.now ≤ state_capacity to.old }
     ensures from_capacity { state_capacity from.new ≡ state_capacity from.old }
     ensures to_capacity { state_capacity to.new ≡ state_capacity to.old }
-    ensures step { MatchOption result (DecidesSome automaton.now from.old)
-        (IsUndecidedStep automaton.now from.old byte to.new) }
+    ensures steps { IsFalse result → IsStepBy automaton.now from.old byte to.new }
+    ensures some { IsTrue result ↔ HasEndFrom automaton.now from.old lowest }
     ensures visits { visits.new ≤ visits.old + size automaton.now }
     ensures counted { visits.old ≤ visits.new }
 {
-    let half = automaton.index_count() / 2;
     to.clear();
-    let mut some = false;
     let mut limit = automaton.state_count();
-    while limit > 0 {
-        let seen = from.read_below(limit, visits);
-        let s = seen.at;
-        if seen.is_set {
-            match take(automaton, s, byte, from, to) {
-                Taken::End(index) => {
-                    if index >= half {
-                        return None;
-                    }
-                }
-                Taken::Next => some = true,
-                Taken::Nothing => {}
-            }
-        }
-        limit = s;
-    }
-    Some(some)
+    next_end(automaton, byte, lowest, &mut limit, from, to, visits).is_some()
 }
 
-/// Takes the steps of a state of `from`: puts into `from` what it goes on to without a byte, and into `to` what it goes on to by the
-/// byte.
-fn take(automaton: &Nfa, s: usize, byte: u8, from: &mut StateSet, to: &mut StateSet) -> Taken
+/// Takes the steps of the states of `from` below a limit, from the highest on, up to the next end of an index from `lowest` on.
+/// Returns this index. The limit is its state then, or 0 if there is no such end.
+///
+/// What a state goes on to without a byte is put into `from`, before the pass comes to it.
+fn next_end(
+    automaton: &Nfa,
+    byte: Option<u8>,
+    lowest: usize,
+    limit: &mut usize,
+    from: &mut StateSet,
+    to: &mut StateSet,
+    visits: &mut Visits,
+) -> Option<usize>
+    requires within { limit.old ≤ size automaton.now }
+    requires from_capacity { size automaton.now ≤ state_capacity from.old }
+    requires to_capacity { size automaton.now ≤ state_capacity to.old }
+    ensures from_capacity { state_capacity from.new ≡ state_capacity from.old }
+    ensures to_capacity { state_capacity to.new ≡ state_capacity to.old }
+    ensures steps { (b : ℕ) (y : List ℕ) (k : ℕ) → byte ≡ Some b
+        → StepsBelow automaton.now from.old limit.old to.old b y k
+        ↔ StepsBelow automaton.now from.new limit.new to.new b y k }
+    ensures ends { (i : ℕ) → lowest ≤ i
+        → EndsBelow automaton.now from.old limit.old i
+        ↔ (EndsBelow automaton.now from.new limit.new i ⊎ (result ≡ Some i)) }
+    ensures end { MatchOption result (limit.new ≡ 0)
+        (λ i. (limit.new < limit.old) × (lowest ≤ i) × (i < automaton.now.index_count)) }
+    ensures visits { visits.new + limit.new ≤ visits.old + limit.old }
+    ensures counted { visits.old ≤ visits.new }
+{
+    while *limit > 0 {
+        let seen = from.read_below(*limit, visits);
+        *limit = seen.at;
+        if seen.is_set {
+            let end = take(automaton, seen.at, byte, lowest, from, to);
+            if end.is_some() {
+                return end;
+            }
+        }
+    }
+    None
+}
+
+/// Takes the steps of a state of `from`: puts into `from` what it goes on to without a byte, and into `to` what it goes on to by
+/// the byte. Returns its index if it is an end of one from `lowest` on.
+fn take(
+    automaton: &Nfa,
+    s: usize,
+    byte: Option<u8>,
+    lowest: usize,
+    from: &mut StateSet,
+    to: &mut StateSet,
+) -> Option<usize>
     requires exists { s < size automaton.now }
     requires from_capacity { size automaton.now ≤ state_capacity from.old }
     requires to_capacity { size automaton.now ≤ state_capacity to.old }
@@ -302,76 +308,22 @@ fn take(automaton: &Nfa, s: usize, byte: u8, from: &mut StateSet, to: &mut State
     ensures from { (t : ℕ)
         → has_state from.new t
         ≡ (goes_now (state automaton.now.states s) t || has_state from.old t) }
-    ensures to { (t : ℕ)
+    ensures to { (b t : ℕ) → byte ≡ Some b
         → has_state to.new t
-        ≡ (goes_next (state automaton.now.states s) s (Some byte) t || has_state to.old t) }
-    ensures taken { IsTaken automaton.now s byte result }
+        ≡ (goes_next (state automaton.now.states s) s (Some b) t || has_state to.old t) }
+    ensures end { (i : ℕ) → lowest ≤ i
+        → IsTrue (names (state automaton.now.states s) None i) ↔ (result ≡ Some i) }
+    ensures index { IfSome result (λ i. (lowest ≤ i) × (i < automaton.now.index_count)) }
 {
     if let Some(index) = automaton.follow_epsilons(s, from) {
-        return Taken::End(index);
+        return if index < lowest { None } else { Some(index) };
     }
-    match automaton.next_by(s, byte) {
-        Some(next) => {
+    if let Some(byte) = byte {
+        if let Some(next) = automaton.next_by(s, byte) {
             to.put(next);
-            Taken::Next
         }
-        None => Taken::Nothing,
     }
-}
-
-/// Puts the index of each end that the states of a set lead to without a byte, and each index that is decided there, into
-/// `found`, next to its contents. It is at most one visit for each state.
-fn tell_ends(automaton: &Nfa, from: &mut StateSet, found: &mut IndexSet, visits: &mut Visits)
-    requires early { (source : NfaValue) × EndsAtEarlyMatches source automaton.now }
-    requires from_capacity { size automaton.now ≤ state_capacity from.old }
-    requires room { half automaton.now ≤ index_capacity found.old }
-    ensures from_capacity { state_capacity from.new ≡ state_capacity from.old }
-    ensures room { index_capacity found.new ≡ index_capacity found.old }
-    ensures found { AddsFoundFrom automaton.now from.old [] found.old found.new }
-    ensures visits { visits.new ≤ visits.old + size automaton.now }
-    ensures counted { visits.old ≤ visits.new }
-{
-    let half = automaton.index_count() / 2;
-    let mut limit = automaton.state_count();
-    while limit > 0 {
-        let seen = from.read_below(limit, visits);
-        let s = seen.at;
-        if seen.is_set {
-            if let Some(index) = automaton.follow_epsilons(s, from) {
-                found.put(told_by(index, half));
-            }
-        }
-        limit = s;
-    }
-}
-
-/// Returns whether the states of a set lead to some end without a byte. It is at most one visit for each state.
-fn has_end(automaton: &Nfa, from: &mut StateSet, visits: &mut Visits) -> bool
-    requires from_capacity { size automaton.now ≤ state_capacity from.old }
-    ensures from_capacity { state_capacity from.new ≡ state_capacity from.old }
-    ensures some { IsTrue result ↔ ((k : ℕ) × AcceptsFrom automaton.now from.old [] k) }
-    ensures visits { visits.new ≤ visits.old + size automaton.now }
-    ensures counted { visits.old ≤ visits.new }
-{
-    let mut limit = automaton.state_count();
-    while limit > 0 {
-        let seen = from.read_below(limit, visits);
-        let s = seen.at;
-        if seen.is_set {
-            if automaton.follow_epsilons(s, from).is_some() {
-                return true;
-            }
-        }
-        limit = s;
-    }
-    false
-}
-
-/// Returns the index that an end of an automaton with early matches tells, which has so many indexes.
-fn told_by(index: usize, half: usize) -> usize
-    ensures { ((index < half) × (result ≡ index)) ⊎ ((half ≤ index) × (result + half ≡ index)) }
-{
-    if index < half { index } else { index - half }
+    None
 }
 
 /// The two sets of states that a run changes between: the states that the text so far leads to, and the states after another

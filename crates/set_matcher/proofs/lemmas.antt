@@ -1,7 +1,6 @@
 pub mod Automata
 pub mod PathPart
 pub mod Below
-pub mod Builders
 pub mod Given
 pub mod Slots
 pub mod SetMatcher

@@ -1,18 +1,17 @@
 //! Globs that no text decides: automata of their tokens.
 
-ghost use Rattle.std.specs.Prelude.{◌≡◌, ◌+◌, ◌*◌, ◌<◌, ◌≤◌, ◌++◌, ◌∷◌, ◌↔◌, [], ℕ, List, length, Some, true, false, IsTrue, IsOk, OnOk, OnErr, IfOk, IfSome};
-ghost use Rattle.byte_nfa.specs.Runs.{size, max_reads};
-ghost use Rattle.bit_sets.specs.Indexes.{has_index, index_capacity};
+ghost use Rattle.std.specs.Prelude.{◌≡◌, ◌+◌, ◌*◌, ◌<◌, ◌≤◌, ◌↔◌, [], ℕ, length, Some, true, false, IsTrue, IsOk, OnOk, OnErr, IfOk};
+ghost use Rattle.byte_nfa.specs.Runs.{size};
+ghost use Rattle.bit_sets.specs.Indexes.{index_capacity};
 ghost use Rattle.bit_sets.specs.Texts.{AllBytes};
 ghost use Rattle.lazy_dfa.specs.Sets.{sets_capacity};
-ghost use Rattle.glob_strategy.specs.IndexedTokens.{IndexedTokens, IsFor, indexed};
+ghost use Rattle.glob_strategy.specs.IndexedTokens.{indexed};
 ghost use Rattle.glob_path.specs.PathParts.{component_extension};
 ghost use Rattle.glob_syntax.specs.FlatTokens.{IsNested};
 ghost use Rattle.glob_syntax.specs.Views.{flats, tokens_of};
-ghost use Rattle.glob_syntax.specs.inner.Weight.{weight};
 ghost use Rattle.set_matcher.specs.inner.Caches.{AreCachesOf};
-ghost use Rattle.set_matcher.specs.inner.Automata.{AddsReads, AddsTokensTo, AreFor, AreForLists, AreFound, AreIdle, IsFoundSet, HaveOneCount, TokenLists, automata_or_none, max_states, no_automata, reads_for, slot_of, states_for, total_reads, AreFoundBelow, folder_reads};
-ghost use Rattle.set_matcher.specs.inner.Builders.{built};
+ghost use Rattle.set_matcher.specs.inner.Automata.{AreForLists, AreFound, AreIdle, IsFoundSet, TokenLists, automata_or_none, max_states, no_automata, reads_for, slot_of, states_for, AreFoundBelow, folder_reads};
+ghost use Rattle.set_matcher.specs.inner.Builders.{AddsTo};
 ghost use Rattle.byte_nfa.specs.Live.{MatchesAfter};
 
 mod matchers;
@@ -293,15 +292,39 @@ struct Builders {
     extensions: ExtensionMatchersBuilder,
 }
 
-impl Model for AutomataBuilder {
-    ghost use Rattle.set_matcher.specs.inner.Automata.{AutomataParts};
-    ghost use Rattle.set_matcher.specs.inner.Builders.{HaveCount, built_or_none};
+impl Model for Builders {
+    ghost use Rattle.set_matcher.specs.inner.Automata.{AutomataParts, HaveOneCount};
 
     ghost Value = { AutomataParts };
 
-    ghost view = { λ a. built_or_none a.index_count a.builders };
+    ghost view = { λ b. record {
+      by_path = b.by_path;
+      by_component = b.by_component;
+      extensions = b.extensions;
+    } };
 
-    ghost invariant = { λ a. HaveCount a.index_count (built_or_none a.index_count a.builders) };
+    ghost invariant = { λ b. HaveOneCount b.by_path b.by_component b.extensions };
+}
+
+impl Model for AutomataBuilder {
+    ghost use Rattle.std.specs.Prelude.{◌≡◌};
+    ghost use Rattle.set_matcher.specs.inner.Automata.{AutomataParts, automata_or_none};
+
+    ghost Value = { AutomataParts };
+
+    ghost view = { λ a. automata_or_none a.index_count a.builders };
+
+    ghost invariant = { λ a.
+        (automata_or_none a.index_count a.builders).extensions.index_count ≡ a.index_count };
+}
+
+/// The automaton that tokens are added to, by what it is run on: the whole path, its last component, or the path before its
+/// extension if that is the given one.
+#[derive(Drop)]
+pub enum Target {
+    Path,
+    LastComponent,
+    Extension(Vec<u8>),
 }
 
 impl AutomataBuilder {
@@ -324,9 +347,7 @@ impl AutomataBuilder {
 
     /// Takes the builders out, which are made if there are none. Returns an error if memory runs out.
     fn take(&mut self, alloc: Global) -> Result<Box<Builders>, AllocError>
-        ensures taken { IfOk result (λ b. built b.value ≡ self.old) }
-        ensures counts { IfOk result
-            (λ b. HaveOneCount b.value.by_path b.value.by_component b.value.extensions) }
+        ensures taken { IfOk result (λ b. b.value ≡ self.old) }
         ensures kept { OnErr result (self.new ≡ self.old) }
         ensures count { self.new.extensions.index_count ≡ self.old.extensions.index_count }
     {
@@ -336,85 +357,23 @@ impl AutomataBuilder {
         }
     }
 
-    /// Adds tokens that the whole path has to match. It takes time and memory linear in the tokens.
-    pub fn add_by_path(
+    /// Adds tokens to an automaton. It takes time and memory linear in the tokens.
+    pub fn add(
         &mut self,
         alloc: Global,
+        target: Target,
         options: Options,
         tokens: &[Token],
         index: usize,
     ) -> Result<(), AllocError>
         requires nested { IsNested (flats tokens.now) }
         requires index { index < self.old.extensions.index_count }
-        ensures tokens { OnOk result
-            ((xs : List IndexedTokens) → IsFor self.old.by_path xs
-            → IsFor self.new.by_path (xs ++ indexed options (tokens_of tokens.now) index ∷ [])) }
-        ensures reads { OnOk result
-            (max_reads self.new.by_path
-            ≤ max_reads self.old.by_path + (weight options (tokens_of tokens.now) + 4)) }
-        ensures component { self.new.by_component ≡ self.old.by_component }
-        ensures extensions { self.new.extensions ≡ self.old.extensions }
-    {
-        let mut builders = self.take(alloc)?;
-        let added = add_tokens(alloc, &mut builders.by_path, options, tokens, index);
-        self.builders = Some(builders);
-        added
-    }
-
-    /// Adds tokens that the last component of a path has to match. It takes time and memory linear in the tokens.
-    pub fn add_by_component(
-        &mut self,
-        alloc: Global,
-        options: Options,
-        tokens: &[Token],
-        index: usize,
-    ) -> Result<(), AllocError>
-        requires nested { IsNested (flats tokens.now) }
-        requires index { index < self.old.extensions.index_count }
-        ensures tokens { OnOk result
-            ((xs : List IndexedTokens) → IsFor self.old.by_component xs
-            → IsFor self.new.by_component
-            (xs ++ indexed options (tokens_of tokens.now) index ∷ [])) }
-        ensures reads { OnOk result
-            (max_reads self.new.by_component
-            ≤ max_reads self.old.by_component + (weight options (tokens_of tokens.now) + 4)) }
-        ensures path { self.new.by_path ≡ self.old.by_path }
-        ensures extensions { self.new.extensions ≡ self.old.extensions }
-    {
-        let mut builders = self.take(alloc)?;
-        let added = add_tokens(alloc, &mut builders.by_component, options, tokens, index);
-        self.builders = Some(builders);
-        added
-    }
-
-    /// Adds tokens that a path has to match whose last component has an extension. It takes time and memory linear in the tokens.
-    pub fn add_by_extension(
-        &mut self,
-        alloc: Global,
-        key: Vec<u8>,
-        options: Options,
-        tokens: &[Token],
-        index: usize,
-    ) -> Result<(), AllocError>
-        requires nested { IsNested (flats tokens.now) }
-        requires index { index < self.old.extensions.index_count }
-        ensures tokens { OnOk result
-            (AddsTokensTo self.old.extensions self.new.extensions key.items
-            (indexed options (tokens_of tokens.now) index)) }
-        ensures reads { OnOk result
-            (AddsReads self.old.extensions self.new.extensions key.items
-            (weight options (tokens_of tokens.now) + 4)) }
-        ensures total { OnOk result
-            (total_reads self.new.extensions.nfas
-            ≤ total_reads self.old.extensions.nfas + (weight options (tokens_of tokens.now) + 4)) }
+        ensures added { OnOk result
+            (AddsTo target self.old self.new (indexed options (tokens_of tokens.now) index)) }
         ensures count { self.new.extensions.index_count ≡ self.old.extensions.index_count }
-        ensures path { self.new.by_path ≡ self.old.by_path }
-        ensures component { self.new.by_component ≡ self.old.by_component }
     {
         let mut builders = self.take(alloc)?;
-        let added = builders
-            .extensions
-            .add_tokens(alloc, key, options, tokens, index);
+        let added = builders.add(alloc, target, options, tokens, index);
         self.builders = Some(builders);
         added
     }
@@ -446,7 +405,7 @@ impl AutomataBuilder {
 impl Builders {
     /// Returns builders that nothing was added to.
     fn new(alloc: Global, index_count: usize) -> Builders
-        ensures { built result ≡ no_automata index_count }
+        ensures { result ≡ no_automata index_count }
     {
         Builders {
             by_path: new_builder(alloc, index_count),
@@ -455,11 +414,36 @@ impl Builders {
         }
     }
 
+    /// Like [`AutomataBuilder::add`].
+    fn add(
+        &mut self,
+        alloc: Global,
+        target: Target,
+        options: Options,
+        tokens: &[Token],
+        index: usize,
+    ) -> Result<(), AllocError>
+        requires nested { IsNested (flats tokens.now) }
+        requires index { index < self.old.extensions.index_count }
+        ensures added { OnOk result
+            (AddsTo target self.old self.new (indexed options (tokens_of tokens.now) index)) }
+        ensures count { self.new.extensions.index_count ≡ self.old.extensions.index_count }
+    {
+        match target {
+            Target::Path => add_tokens(alloc, &mut self.by_path, options, tokens, index),
+            Target::LastComponent => {
+                add_tokens(alloc, &mut self.by_component, options, tokens, index)
+            }
+            Target::Extension(key) => self
+                .extensions
+                .add_tokens(alloc, key, options, tokens, index),
+        }
+    }
+
     /// Returns what was added. The rows that are kept between calls take at most `dfa_size_limit` bytes. Returns an error if
     /// memory runs out.
     fn finish(self, alloc: Global, dfa_size_limit: usize) -> Result<Automata, AllocError>
-        requires { HaveOneCount self.by_path self.by_component self.extensions }
-        ensures { IfOk result (λ automata. automata ≡ built self) }
+        ensures { IfOk result (λ automata. automata ≡ self) }
     {
         let Builders {
             by_path,

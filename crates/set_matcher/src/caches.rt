@@ -76,7 +76,6 @@ pub(crate) struct SlotCaches {
 }
 
 impl Drop for SlotCaches {
-    // One call wherever a value is dropped, which keeps proofs short.
     #[inline(always)]
     fn drop(self) {
         let SlotCaches { caches: _ } = self;

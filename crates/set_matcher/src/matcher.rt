@@ -21,7 +21,7 @@ ghost use Rattle.set_matcher.specs.Below.{MatchesBelow};
 ghost use Rattle.set_matcher.specs.Indexes.{ContainsAllBelow};
 ghost use Rattle.set_matcher.specs.Work.{load, load_below, max_set_visits, max_set_visits_below};
 
-use crate::automata::{Automata, AutomataBuilder};
+use crate::automata::{Automata, AutomataBuilder, Target};
 use crate::caches::Caches;
 use bit_sets::Visits;
 use glob_matching::Scratch;
@@ -414,12 +414,12 @@ fn put(
         MatchStrategy::Key(key) => keys.add(key, index),
         MatchStrategy::RequiredExtension(extension) => {
             let rest = tokens_before_ending(tokens);
-            automata.add_by_extension(alloc, extension, options, rest, index)
+            automata.add(alloc, Target::Extension(extension), options, rest, index)
         }
         MatchStrategy::Basename => {
             let rest = tokens_after_prefix(tokens);
-            automata.add_by_component(alloc, options, rest, index)
+            automata.add(alloc, Target::LastComponent, options, rest, index)
         }
-        MatchStrategy::Path => automata.add_by_path(alloc, options, tokens, index),
+        MatchStrategy::Path => automata.add(alloc, Target::Path, options, tokens, index),
     }
 }

@@ -32,7 +32,6 @@ pub struct Output {
 }
 
 impl Drop for Output {
-    // One call wherever a value is dropped, which keeps proofs short.
     fn drop(self) {
         let Output {
             searcher: _,

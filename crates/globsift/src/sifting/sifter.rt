@@ -22,7 +22,6 @@ pub struct Sifter {
 }
 
 impl Drop for Sifter {
-    // One call wherever a value is dropped, which keeps proofs short.
     fn drop(self) {
         let Sifter { output: _, rest: _ } = self;
     }

@@ -1,5 +1,5 @@
 -- What is found after a text, whatever follows it.
-use Rattle.std.proofs.Common.{◌≡◌, ℕ, zero, suc, ◌+◌, ◌-◌, ◌<◌, ◌==◌, inl, inr, false, true≢false, List, [], ◌∷◌, ◌++◌, length, slice_index, append-nil, IsTrue, refl, sym, subst, ◌∙◌, arith}
+use Rattle.std.proofs.Common.{◌≡◌, ℕ, zero, suc, ◌+◌, ◌-◌, ◌<◌, ◌==◌, inl, inr, true, false, true≢false, List, [], ◌∷◌, ◌++◌, length, slice_index, append-nil, IsTrue, refl, sym, subst, ◌∙◌, arith}
 use Rattle.std.specs.Prelude.{◌↔◌}
 use Rattle.std.proofs.lemmas.Bool.{cases_lt, eqb-true, eq-eqb, or_cases}
 use Rattle.std.proofs.Math.Logic.{⊎_elim}
@@ -9,14 +9,14 @@ use Rattle.bit_sets.specs.Texts.{AllBytes}
 use Rattle.bit_sets.specs.declared.state_set.StateSet.{StateSet}
 use Rattle.byte_nfa.proofs.lemmas.EarlyMatches.{decided_small}
 use Rattle.byte_nfa.proofs.lemmas.Live.{after_byte}
-use Rattle.byte_nfa.proofs.lemmas.Pass.{or_first, or_second}
+use Rattle.byte_nfa.proofs.lemmas.Pass.{iff_trans, or_first, or_second}
 use Rattle.byte_nfa.specs.EarlyMatches.{IsAtEarlyMatch, EndsAtEarlyMatches}
 use Rattle.byte_nfa.specs.Live.{AreLive, MatchesAfter}
 use Rattle.byte_nfa.specs.Runs.{size}
 use Rattle.byte_nfa.specs.Steps.{NfaValue, state, match_state, Accepts, IsReached, ends, by_byte, by_skip, by_out, by_stay}
 use Rattle.lazy_dfa.specs.inner.Sources.{half}
 use Rattle.lazy_dfa.specs.inner.Rows.{AcceptsIn, FindsBy}
-use Rattle.lazy_dfa.proofs.lemmas.Finding.{found_is}
+use Rattle.lazy_dfa.proofs.lemmas.Finding.{found_is, at_dead, at_quiet, some_last, some_same}
 
 pub both_bytes : (y z : List ℕ) → AllBytes y → AllBytes z → AllBytes (y ++ z)
 both_bytes [] z h g = g
@@ -95,3 +95,35 @@ after_is old m made text byte bytes small = (
   λ (k, y, all, h). (k, y, all, subst (λ z. IsReached old z k) (sym (after_byte text y byte)) ((found_is old m made (text ++ byte ∷ y) (both_bytes text (byte ∷ y) bytes (small, all)) k).0 h)),
   λ (k, y, all, r). (k, y, all, (found_is old m made (text ++ byte ∷ y) (both_bytes text (byte ∷ y) bytes (small, all)) k).1 (subst (λ z. IsReached old z k) (after_byte text y byte) r)),
 )
+
+-- what a call answers, where a text leads to the decision of an index, to nothing, or to what finds the rest
+module _ (n : ℕ) (P : List ℕ → ℕ → Type 0) (text : List ℕ) where
+  pub decided_end : ((z : List ℕ) → (k : ℕ) × FindsBy n P (text ++ z) k) → IsTrue true ↔ ((k : ℕ) × FindsBy n P text k)
+  decided_end finds = let (k, found) = finds [] in (λ _. (k, subst (λ y. FindsBy n P y k) (append-nil text) found), λ _. refl)
+
+  pub nothing_end : ((z : List ℕ) (k : ℕ) → FindsBy n P (text ++ z) k → ⊥) → IsTrue false ↔ ((k : ℕ) × FindsBy n P text k)
+  nothing_end none = (λ off. absurd (true≢false (sym off)), λ (k, finds). absurd (none [] k (subst (λ y. FindsBy n P y k) (sym (append-nil text)) finds)))
+
+  pub decided_after : (b : ℕ) → ((z : List ℕ) → (k : ℕ) × FindsBy n P (text ++ z) k) → IsTrue true ↔ ((k : ℕ) × (y : List ℕ) × AllBytes y × FindsBy n P (text ++ b ∷ y) k)
+  decided_after b finds = let (k, found) = finds (b ∷ []) in (λ _. (k, [], tt, found), λ _. refl)
+
+  pub nothing_after : (b : ℕ) → ((z : List ℕ) (k : ℕ) → FindsBy n P (text ++ z) k → ⊥) → IsTrue false ↔ ((k : ℕ) × (y : List ℕ) × AllBytes y × FindsBy n P (text ++ b ∷ y) k)
+  nothing_after b none = (λ off. absurd (true≢false (sym off)), λ (k, y, all, found). absurd (none (b ∷ y) k found))
+
+  module _ (Q : List ℕ → ℕ → Type 0) (finds : (z : List ℕ) (k : ℕ) → FindsBy n Q z k ↔ FindsBy n P (text ++ z) k) where
+    pub row_end : ((k : ℕ) × (k < n + n) × Q [] k) ↔ ((k : ℕ) × FindsBy n P text k)
+    row_end = iff_trans (some_last n Q) (some_same (λ k. subst (λ y. FindsBy n Q [] k ↔ FindsBy n P y k) (append-nil text) (finds [] k)))
+
+    pub marked_after : (b : ℕ) → ((k : ℕ) × (k < n) × Q [] (n + k)) → IsTrue true ↔ ((k : ℕ) × (y : List ℕ) × AllBytes y × FindsBy n P (text ++ b ∷ y) k)
+    marked_after b (k, low, a) = (λ _. (k, [], tt, (finds (b ∷ []) k).0 (low, inr ([], b ∷ [], refl, a))), λ _. refl)
+
+    module _ (b : ℕ) (none : (k : ℕ) → k < n → Q [] (n + k) → ⊥) where
+      pub dead_after : ((y : List ℕ) (k : ℕ) → Q (b ∷ y) k → ⊥) → IsTrue false ↔ ((k : ℕ) × (y : List ℕ) × AllBytes y × FindsBy n P (text ++ b ∷ y) k)
+      dead_after dead = (
+        λ off. absurd (true≢false (sym off)),
+        λ (k, y, all, found). let (low, a) = (at_dead n Q b dead y k).0 ((finds (b ∷ y) k).1 found) in absurd (none k low a),
+      )
+
+      pub row_after : (R : List ℕ → ℕ → Type 0) → ((y : List ℕ) (k : ℕ) → Q (b ∷ y) k ↔ R y k) → ((y : List ℕ) (k : ℕ) → R y k → k < n + n)
+          → ((k : ℕ) × (y : List ℕ) × AllBytes y × R y k) ↔ ((k : ℕ) × (y : List ℕ) × AllBytes y × FindsBy n P (text ++ b ∷ y) k)
+      row_after R goes below = iff_trans (live_finds n R below) (some_after (λ y k. iff_trans (at_quiet n Q R b goes none y k) (finds (b ∷ y) k)))

@@ -6,12 +6,14 @@ use Rattle.std.proofs.lemmas.Nat.{mul-le}
 use Rattle.std.proofs.Math.Logic.{⊎_elim}
 use Rattle.byte_nfa.proofs.lemmas.Pass.{iff_trans}
 use Rattle.lazy_dfa.proofs.lemmas.Lists.{iff_sym}
+use Rattle.lazy_dfa.proofs.lemmas.Told.{told_same, told_either}
 use Rattle.byte_nfa.specs.Steps.{NfaValue, IsReached}
 use Rattle.byte_nfa.specs.EarlyMatches.{EndsAtEarlyMatches}
 use Rattle.byte_nfa.proofs.lemmas.Deciding.{reached_by}
 use Rattle.bit_sets.specs.Texts.{AllBytes}
 use Rattle.lazy_dfa.specs.inner.Sources.{half}
 use Rattle.lazy_dfa.specs.inner.Rows.{FindsBy}
+use Rattle.lazy_dfa.specs.inner.Told.{ToldBy}
 
 -- a fact beside another that is replaced
 pub iff_beside : {P Q S : Type 0} → (P ↔ Q) → (P ⊎ S) ↔ (Q ⊎ S)
@@ -107,21 +109,9 @@ module _ (n : ℕ) (P : List ℕ → ℕ → Type 0) where
         → IsTrue now ↔ (((k < n) × IsTrue marks × IsTrue (ends (n + k))) ⊎ IsTrue was) → (FindsBy n P (b ∷ y) k ⊎ IsTrue was) ↔ R → IsTrue now ↔ R
     dead_found b dead y k was now R told before = iff_trans (iff_trans told (iff_beside (iff_trans (told_is k) (iff_sym (at_dead b dead y k))))) before
 
-  -- at the end of the text
-  pub last_found : (ends : ℕ → Bool) → ((k : ℕ) → k < n + n → IsTrue (ends k) ↔ P [] k) → (k : ℕ) (was mid now : Bool) (R : Type 0)
-      → IsTrue mid ↔ (((k < n) × IsTrue (ends (n + k))) ⊎ IsTrue was) → IsTrue now ↔ (((k < n) × IsTrue (ends k)) ⊎ IsTrue mid)
-      → (FindsBy n P [] k ⊎ IsTrue was) ↔ R → IsTrue now ↔ R
-  last_found ends ended k was mid now R first second before = iff_trans (there, back) before
-    where
-      there : IsTrue now → FindsBy n P [] k ⊎ IsTrue was
-      there h = ⊎_elim {C = FindsBy n P [] k ⊎ IsTrue was} (λ (lt, at). inl ((at_no_byte k).1 (lt, inl ((ended k (omega arith)).0 at))))
-          (λ m. ⊎_elim {C = FindsBy n P [] k ⊎ IsTrue was} (λ (lt, at). inl ((at_no_byte k).1 (lt, inr ((ended (n + k) (omega arith)).0 at)))) (λ w. inr w) (first.0 m)) (second.0 h)
-
-      back : FindsBy n P [] k ⊎ IsTrue was → IsTrue now
-      back (inl h) =
-          let (lt, either) = (at_no_byte k).0 h in
-          ⊎_elim {C = IsTrue now} (λ a. second.1 (inl (lt, (ended k (omega arith)).1 a))) (λ a. second.1 (inr (first.1 (inl (lt, (ended (n + k) (omega arith)).1 a))))) either
-      back (inr w) = second.1 (inr (first.1 (inr w)))
+  -- at the end of the text, by the indexes of ends
+  pub last_told : (R : ℕ → Type 0) → ((k : ℕ) → k < n + n → R k ↔ P [] k) → (k : ℕ) → ToldBy n R 0 k ↔ FindsBy n P [] k
+  last_told R ended k = iff_trans (told_same n R 0 k (P []) (λ j le lt. ended j lt)) (iff_trans (told_either n (P []) k) (iff_sym (at_no_byte k)))
 
   -- at the end of the text, where nothing is found
   pub none_last : ((k : ℕ) → k < n + n → P [] k → ⊥) → (k : ℕ) → FindsBy n P [] k → ⊥

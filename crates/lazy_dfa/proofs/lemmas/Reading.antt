@@ -1,5 +1,5 @@
 -- Where a text leads, in two parts.
-use Rattle.std.proofs.Common.{◌≡◌, ℕ, inr, Bool, true≢false, List, ◌++◌, Some, None, IsTrue, ap, ◌∙◌}
+use Rattle.std.proofs.Common.{◌≡◌, ℕ, inr, Bool, true≢false, List, ◌++◌, Some, None, IsTrue, ap, ◌∙◌, ◌⊎◌}
 use Rattle.std.specs.Prelude.{◌↔◌, Option, IfSome, MatchOption, is_some}
 use Rattle.std.proofs.Math.Bool.{not}
 use Rattle.bit_sets.specs.Indexes.{has_index}
@@ -11,7 +11,7 @@ use Rattle.lazy_dfa.specs.declared.rows.Rows.{Rows}
 use Rattle.lazy_dfa.specs.declared.run.Left.{Left}
 use Rattle.lazy_dfa.specs.declared.run.Reached.{Reached}
 use Rattle.lazy_dfa.specs.declared.run.Reached.TheVariants.{Decided, Nothing, Row}
-use Rattle.lazy_dfa.specs.inner.Reached.{IsLeft, IsWhereBy, MayHold}
+use Rattle.lazy_dfa.specs.inner.Reached.{IsLeft, IsWhereBy}
 use Rattle.lazy_dfa.specs.inner.Rows.{AcceptsRow, AddsFound, FindsBy}
 use Rattle.lazy_dfa.proofs.lemmas.Finding.{iff_beside, finds_same}
 
@@ -29,16 +29,10 @@ module _ (m : NfaValue) (rows : Rows) (j : ℕ) (text : List ℕ) (old new : Ind
   finds_some (Some left) none is some on = absurd (true≢false (some ∙ ap not on))
 
   -- what was found before a run was left
-  pub may_hold : (left : Option Left) → ((y : List ℕ) (k : ℕ) → AcceptsRow m rows j y k ↔ IsReached m y k) → ((k : ℕ) → IsTrue (has_index old k) → IsTrue (has_index new k))
-      → MatchOption left (AddsFound m rows j text old new) (IsLeft m rows j text old rows new) → MayHold m text old new
-  may_hold None begins kept adds = record {
-    kept = kept;
-    sound = λ k h. (iff_beside (finds_same (half m) (AcceptsRow m rows j) (IsReached m) begins text k)).0 ((adds k).0 h);
-  }
-  may_hold (Some left) begins kept is = record {
-    kept = kept;
-    sound = λ k h. let (i, at, finds) = is.row in (iff_beside (finds_same (half m) (AcceptsRow m rows j) (IsReached m) begins text k)).0 ((finds k).0 (inr h));
-  }
+  pub found_before : (left : Option Left) → ((y : List ℕ) (k : ℕ) → AcceptsRow m rows j y k ↔ IsReached m y k)
+      → MatchOption left (AddsFound m rows j text old new) (IsLeft m rows j text old rows new) → (k : ℕ) → IsTrue (has_index new k) → FindsBy (half m) (IsReached m) text k ⊎ IsTrue (has_index old k)
+  found_before None begins adds k h = (iff_beside (finds_same (half m) (AcceptsRow m rows j) (IsReached m) begins text k)).0 ((adds k).0 h)
+  found_before (Some left) begins is k h = let (i, at, finds) = is.row in (iff_beside (finds_same (half m) (AcceptsRow m rows j) (IsReached m) begins text k)).0 ((finds k).0 (inr h))
 
 -- an answer, if there is one, by the same facts
 pub answer_same : {P Q : Type 0} (answer : Option Bool) → P ↔ Q → IfSome answer (λ yes. IsTrue yes ↔ P) → IfSome answer (λ yes. IsTrue yes ↔ Q)

@@ -17,6 +17,7 @@ use Rattle.byte_nfa.proofs.lemmas.Pass.{iff_trans, or_first, accepts_within}
 use Rattle.lazy_dfa.specs.inner.Sources.{half}
 use Rattle.lazy_dfa.specs.inner.Lists.{list_at, IsList, IsListOf}
 use Rattle.lazy_dfa.proofs.lemmas.Lists.{list_of_iff}
+use Rattle.bit_sets.specs.Bits.{TellsFirstBelow}
 use Rattle.bit_sets.specs.Indexes.{has_index}
 use Rattle.bit_sets.specs.declared.index_set.IndexSet.{IndexSet}
 use Rattle.lazy_dfa.proofs.lemmas.Lists as Lists
@@ -402,12 +403,14 @@ entry_by m rows i b e marks sound small some low are is = record {
         }
 
 -- marks, by the indexes of ends
-pub marks_by_ends : (m : NfaValue) (rows : Rows) (i : ℕ) (ends : IndexSet) (marks : Bool) → IsTrue marks ↔ ((k : ℕ) × (k < half m) × IsTrue (has_index ends (half m + k)))
+pub marks_by_ends : (m : NfaValue) (rows : Rows) (i : ℕ) (ends : IndexSet) (o : Option ℕ) (marks : Bool) → marks ≡ is_some o → TellsFirstBelow (has_index ends) (half m) (half m + half m) o
     → HasEnds m rows i ends → IsTrue marks ↔ HasMarks m rows i
-marks_by_ends m rows i ends marks is has = (
-  λ h. let (k, lt, at) = is.0 h in (k, lt, (has (half m + k) (omega arith)).0 at),
-  λ (k, lt, a). is.1 (k, lt, (has (half m + k) (omega arith)).1 a),
-)
+marks_by_ends m rows i ends o marks is first has =
+    let h = half m in
+    let some = in_range h (h + h) (has_index ends) o marks is first in (
+      λ t. let (k, low, high, at) = some.0 t in let same : k ≡ h + (k - h) = omega arith in (k - h, omega arith, subst (AcceptsRow m rows i []) same ((has k high).0 at)),
+      λ (k, lt, a). some.1 (h + k, omega arith, omega arith, (has (h + k) (omega arith)).1 a),
+    )
 
 pub marks_kept : (m : NfaValue) (old new : Rows) (i n : ℕ) → KeepsRows old new → i < length old.starts.items → MarksAre m old i n → MarksAre m new i n
 marks_kept m old new i n keeps lt (inl (has, is)) = inl (marks_still m old new i keeps lt has, is)

@@ -1,126 +1,89 @@
--- Passes over a set of states, of which each index is looked at by itself.
-use Rattle.std.proofs.Common.{◌≡◌, ℕ, ◌+◌, ◌-◌, ◌<◌, ◌≤◌, ◌==◌, ◌⊎◌, inl, inr, Bool, true, false, List, [], IsTrue, Some, None, refl, sym, ◌∙◌, ap, arith, min}
-use Rattle.std.specs.Prelude.{◌↔◌, ◌||◌}
-use Rattle.std.proofs.lemmas.Bool.{eqb-true, eq-eqb, or_cases, cases_Bool}
+-- Passes over a set of states.
+use Rattle.std.proofs.Common.{◌≡◌, ℕ, ◌+◌, ◌-◌, ◌<◌, ◌≤◌, ◌⊎◌, inl, inr, Bool, true, false, List, [], ◌∷◌, IsTrue, Some, None, true≢false, refl, sym, subst, ◌∙◌, arith, min}
+use Rattle.std.specs.Prelude.{◌↔◌, ◌||◌, Option, MatchOption, is_some}
 use Rattle.std.proofs.Math.Logic.{⊎_elim}
-use Rattle.byte_nfa.specs.Steps.{State, state, match_state}
+use Rattle.bit_sets.specs.StateSets.{has_state}
+use Rattle.bit_sets.specs.declared.state_set.StateSet.{StateSet}
+use Rattle.byte_nfa.specs.EarlyMatches.{EndsAtEarlyMatches}
+use Rattle.byte_nfa.specs.Runs.{size, AcceptsFrom}
+use Rattle.byte_nfa.specs.Steps.{NfaValue, State, state}
 use Rattle.byte_nfa.specs.inner.Views.{GoesBelow}
-use Rattle.byte_nfa.specs.inner.Pass.{head, goes_now, goes_next, names, PassInvariant}
-use Rattle.byte_nfa.proofs.lemmas.Pass.{iff_trans, or_first, or_second, read_taken}
+use Rattle.byte_nfa.specs.inner.Pass.{goes_now, names, AcceptsNow}
+use Rattle.byte_nfa.proofs.lemmas.Pass.{iff_trans, none_swept, some_found, read_passed, read_taken, stays_at_end, next_position}
+use Rattle.lazy_dfa.proofs.lemmas.After.{index_below}
+use Rattle.lazy_dfa.proofs.lemmas.Lists.{iff_sym}
+use Rattle.lazy_dfa.specs.inner.Sources.{half}
+use Rattle.lazy_dfa.specs.inner.Stepping.{EndsBelow, StepsBelow, HasEndFrom}
 
--- two facts, each of which is replaced
-pub iff_both : {P Q R S : Type 0} → (P ↔ Q) → (R ↔ S) → (P ⊎ R) ↔ (Q ⊎ S)
-iff_both {P = P} {Q = Q} {R = R} {S = S} f g = (⊎_elim {C = Q ⊎ S} (λ p. inl (f.0 p)) (λ r. inr (g.0 r)), ⊎_elim {C = P ⊎ R} (λ q. inl (f.1 q)) (λ s. inr (g.1 s)))
+or_off : (p : Bool) → p ≡ (p || false)
+or_off true = refl
+or_off false = refl
 
--- truth values of which each follows from the other
-same_truth : (p q : Bool) → (p ≡ true → q ≡ true) → (q ≡ true → p ≡ true) → p ≡ q
-same_truth true q f g = sym (f refl)
-same_truth false true f g = g refl
-same_truth false false f g = refl
+-- the other of two facts is replaced
+iff_other : {P Q R : Type 0} → (Q ↔ R) → (P ⊎ Q) ↔ (P ⊎ R)
+iff_other {P = P} {Q = Q} {R = R} f = (⊎_elim {C = P ⊎ R} (λ p. inl p) (λ q. inr (f.0 q)), ⊎_elim {C = P ⊎ Q} (λ p. inl p) (λ r. inr (f.1 r)))
 
--- an end of the index i that says that an index is decided says so of i less h
-pub marks_it : (st : State) (h i k : ℕ) (q : Bool) → st ≡ match_state i → h ≤ i → ((k == (i - h)) || q) ≡ (names st None (h + k) || q)
-marks_it st h i k q is le = rw is (ap (λ p. p || q) (same_truth (k == (i - h)) ((h + k) == i)
-    (λ yes. let at : k ≡ i - h = eqb-true k (i - h) yes in eq-eqb (h + k) i (omega arith))
-    (λ yes. let at : h + k ≡ i = eqb-true (h + k) i yes in eq-eqb k (i - h) (omega arith))))
+pub no_end_is : (o : Option ℕ) → is_some o ≡ false → o ≡ None
+no_end_is None off = refl
+no_end_is (Some i) off = absurd (true≢false off)
 
--- another end says nothing of the kind
-pub marks_none : (st : State) (h i k : ℕ) (q : Bool) → st ≡ match_state i → i < h → q ≡ (names st None (h + k) || q)
-marks_none st h i k q is lt = rw is (ap (λ p. p || q) (sym (⊎_elim {C = ((h + k) == i) ≡ false} (λ yes. let at : h + k ≡ i = eqb-true (h + k) i yes in absurd (omega arith)) (λ is_false. is_false) (cases_Bool ((h + k) == i)))))
+-- where there is no end, none is added
+pub no_end_more : (P : Type 0) (o : Option ℕ) (i : ℕ) → o ≡ None → (P ⊎ (o ≡ Some i)) ↔ P
+no_end_more P o i none = (⊎_elim {C = P} (λ p. p) (λ is. absurd cc), λ p. inl p)
 
-different : (x y : ℕ) → (x ≡ y → ⊥) → (x == y) ≡ false
-different x y apart = ⊎_elim {C = (x == y) ≡ false} (λ yes. absurd (apart (eqb-true x y yes))) (λ is_false. is_false) (cases_Bool (x == y))
+module _ (a : List State) (s limit i : ℕ) (now : ℕ → Bool) (below : s < limit) (between : (t : ℕ) → s < t → t < limit → now t ≡ false) where
+  -- ends below the limit, where a state is passed over
+  pub end_passed : now s ≡ false → AcceptsNow a now limit [] i ↔ AcceptsNow a now s [] i
+  end_passed unmarked =
+      let none : ℕ → Bool = λ _. false in
+      iff_trans (iff_sym (none_swept a limit now none none [] i (λ t lt. refl) (λ t. refl)))
+      (iff_trans (read_passed a s limit i [] now none none below between unmarked) (none_swept a s now none none [] i (λ t lt. refl) (λ t. refl)))
 
--- an end of the index i tells i, or i less h
-pub ends_it : (st : State) (h i e k : ℕ) (q : Bool) → st ≡ match_state i → ((i < h) × (e ≡ i)) ⊎ ((h ≤ i) × (e + h ≡ i)) → k < h
-    → ((k == e) || q) ≡ (names st None k || (names st None (h + k) || q))
-ends_it st h i e k q is (inl (lt, same)) low =
-    let apart : ((h + k) == i) ≡ false = different (h + k) i (λ at. omega arith) in
-    rw is (rw same (rw apart refl))
-ends_it st h i e k q is (inr (le, more)) low =
-    let apart : (k == i) ≡ false = different k i (λ at. omega arith) in
-    let both : ((h + k) == i) ≡ (k == e) = same_truth ((h + k) == i) (k == e)
-    (λ yes. let at : h + k ≡ i = eqb-true (h + k) i yes in eq-eqb k e (omega arith))
-    (λ yes. let at : k ≡ e = eqb-true k e yes in eq-eqb (h + k) i (omega arith)) in
-    rw is (rw apart (rw both refl))
+  -- and where it is taken
+  pub end_taken : (now' : ℕ → Bool) (E : Type 0) → now s ≡ true → GoesBelow s (state a s) → ((t : ℕ) → now' t ≡ (goes_now (state a s) t || now t))
+      → IsTrue (names (state a s) None i) ↔ E → AcceptsNow a now limit [] i ↔ (AcceptsNow a now' s [] i ⊎ E)
+  end_taken now' E marked order is_now is_end =
+      let none : ℕ → Bool = λ _. false in
+      let named = names (state a s) None in
+      iff_trans (iff_sym (none_swept a limit now none none [] i (λ t lt. refl) (λ t. refl)))
+      (iff_trans (read_taken a s limit i [] now none none now' none named below between marked order is_now (λ t. stays_at_end (state a s) s t) (λ t. or_off (named t)))
+      (iff_trans (iff_sym (some_found a s now' none named i (λ t. refl))) (iff_other is_end)))
 
--- and no index from h on
-pub ends_below : (h i e k : ℕ) (q : Bool) → i < h + h → ((i < h) × (e ≡ i)) ⊎ ((h ≤ i) × (e + h ≡ i)) → h ≤ k → ((k == e) || q) ≡ q
-ends_below h i e k q small told high = ⊎_elim {C = ((k == e) || q) ≡ q}
-    (λ (lt, same). rw (different k e (λ at. omega arith)) refl)
-    (λ (le, more). rw (different k e (λ at. omega arith)) refl) told
+-- before a pass, and after it
+pub step_begun : (m : NfaValue) (from to : StateSet) (b : ℕ) (y : List ℕ) (k : ℕ) → ((t : ℕ) → has_state to t ≡ false) → AcceptsFrom m from (b ∷ y) k ↔ StepsBelow m from (size m) to b y k
+step_begun m from to b y k none = iff_sym (none_swept m.states (size m) (has_state from) (has_state to) (λ _. false) (b ∷ y) k (λ t lt. none t) (λ t. refl))
 
--- an end goes on to no state
-pub end_stays : (st : State) (i s : ℕ) (b t : ℕ) → st ≡ match_state i → goes_next st s (Some b) t ≡ false
-end_stays st i s b t is = rw is refl
+pub step_done : (m : NfaValue) (from to : StateSet) (limit b : ℕ) (y : List ℕ) (k : ℕ) → limit ≡ 0 → StepsBelow m from limit to b y k ↔ AcceptsFrom m to y k
+step_done m from to limit b y k past = rw past (next_position m.states (has_state from) (has_state to) (λ _. false) b y k)
 
-module _ (a : List State) where
-  grow : (now next : ℕ → Bool) (limit : ℕ) (y : List ℕ) (k : ℕ) (p q : Bool) → (IsTrue p → IsTrue q) → PassInvariant a now limit next (λ _. p) y k → PassInvariant a now limit next (λ _. q) y k
-  grow now next limit y k p q more (inl h) = inl h
-  grow now next limit y k p q more (inr (inl h)) = inr (inl h)
-  grow now next limit y k p q more (inr (inr (nil, at))) = inr (inr (nil, more at))
+pub none_below : (a : List State) (now : ℕ → Bool) (limit : ℕ) (y : List ℕ) (k : ℕ) → limit ≡ 0 → AcceptsNow a now limit y k → ⊥
+none_below a now limit y k past (t, lt, at, h) = omega (arith, lt, past)
 
-  found_at : (now next f g : ℕ → Bool) (limit : ℕ) (y : List ℕ) (k : ℕ) → f k ≡ g k → PassInvariant a now limit next f y k ↔ PassInvariant a now limit next g y k
-  found_at now next f g limit y k same = (change f g same, change g f (sym same))
-    where
-      change : (p q : ℕ → Bool) → p k ≡ q k → PassInvariant a now limit next p y k → PassInvariant a now limit next q y k
-      change p q is (inl h) = inl h
-      change p q is (inr (inl h)) = inr (inl h)
-      change p q is (inr (inr (nil, at))) = inr (inr (nil, sym is ∙ at))
+-- a pass comes to an end if there is one
+pub has_end_is : (m : NfaValue) (from from' : StateSet) (limit' lowest : ℕ) (o : Option ℕ) → ((i : ℕ) → lowest ≤ i → EndsBelow m from (size m) i ↔ (EndsBelow m from' limit' i ⊎ (o ≡ Some i)))
+    → MatchOption o (limit' ≡ 0) (λ i. (limit' < size m) × (lowest ≤ i) × (i < m.index_count)) → IsTrue (is_some o) ↔ HasEndFrom m from lowest
+has_end_is m from from' limit' lowest None ends past =
+    (λ off. absurd (true≢false (sym off)), λ (i, le, h). absurd (⊎_elim {C = ⊥} (λ low. none_below m.states (has_state from') limit' [] i past low) (λ is. cc) ((ends i le).0 h)))
+has_end_is m from from' limit' lowest (Some i) ends (lt, le, small) = (λ _. (i, le, (ends i le).1 (inr refl)), λ _. refl)
 
-  module _ (s limit : ℕ) (y : List ℕ) (now next now' next' : ℕ → Bool) (below : s < limit) (between : (t : ℕ) → s < t → t < limit → now t ≡ false) (marked : now s ≡ true)
-      (order : GoesBelow s (state a s))
-      (is_now : (t : ℕ) → now' t ≡ (goes_now (state a s) t || now t))
-      (is_next : (t : ℕ) → next' t ≡ (goes_next (state a s) s (head y) t || next t)) where
-    -- a state is taken, and one index is looked at
-    pub taken_at : (k : ℕ) (was is : Bool) → is ≡ (names (state a s) (head y) k || was) → PassInvariant a now limit next (λ _. was) y k ↔ PassInvariant a now' s next' (λ _. is) y k
-    taken_at k was is found =
-        let names_or : ℕ → Bool = λ t. names (state a s) (head y) t || was in
-        iff_trans (read_taken a s limit k y now next (λ _. was) now' next' names_or below between marked order is_now is_next (λ t. refl))
-        (found_at now' next' names_or (λ _. is) s y k (sym found))
+-- ends from half on decide
+pub decides_some : (source m : NfaValue) → EndsAtEarlyMatches source m → (set : StateSet) → HasEndFrom m set (half m) → (k : ℕ) × (k < half m) × AcceptsFrom m set [] (half m + k)
+decides_some source m early set (i, le, (t, lt, at, a)) =
+    let small = index_below source m early i t [] a in
+    let same : i ≡ half m + (i - half m) = omega (arith, le) in
+    (i - half m, omega (arith, small, le), subst (AcceptsFrom m set []) same (t, lt, at, a))
 
-    -- and two indexes that are told as one
-    pub both_taken : (k j : ℕ) (was is : Bool) → is ≡ (names (state a s) (head y) k || (names (state a s) (head y) j || was))
-        → (PassInvariant a now limit next (λ _. was) y k ⊎ PassInvariant a now limit next (λ _. was) y j) ↔ (PassInvariant a now' s next' (λ _. is) y k ⊎ PassInvariant a now' s next' (λ _. is) y j)
-    both_taken k j was is found = (there, back)
-      where
-        one : Bool
-        one = names (state a s) (head y) k || was
+pub none_decided : (m : NfaValue) (set : StateSet) → (HasEndFrom m set (half m) → ⊥) → (k : ℕ) → k < half m → AcceptsFrom m set [] (half m + k) → ⊥
+none_decided m set none k low a = none (half m + k, omega arith, a)
 
-        other : Bool
-        other = names (state a s) (head y) j || was
-
-        from_one : IsTrue one → IsTrue is
-        from_one h = found ∙ ⊎_elim {C = IsTrue (names (state a s) (head y) k || other)} (λ n. or_first (names (state a s) (head y) k) other n)
-            (λ w. or_second (names (state a s) (head y) k) other (or_second (names (state a s) (head y) j) was w)) (or_cases (names (state a s) (head y) k) was h)
-
-        from_other : IsTrue other → IsTrue is
-        from_other h = found ∙ or_second (names (state a s) (head y) k) other h
-
-        there : PassInvariant a now limit next (λ _. was) y k ⊎ PassInvariant a now limit next (λ _. was) y j → PassInvariant a now' s next' (λ _. is) y k ⊎ PassInvariant a now' s next' (λ _. is) y j
-        there (inl h) = inl (grow now' next' s y k one is from_one ((taken_at k was one refl).0 h))
-        there (inr h) = inr (grow now' next' s y j other is from_other ((taken_at j was other refl).0 h))
-
-        Before : Type 0
-        Before = PassInvariant a now limit next (λ _. was) y k ⊎ PassInvariant a now limit next (λ _. was) y j
-
-        -- what is found was found for one of both
-        split : y ≡ [] → IsTrue is → Before
-        split nil at = ⊎_elim {C = Before} (λ n. inl ((taken_at k was one refl).1 (inr (inr (nil, or_first (names (state a s) (head y) k) was n)))))
-            (λ o. inr ((taken_at j was other refl).1 (inr (inr (nil, o))))) (or_cases (names (state a s) (head y) k) other (sym found ∙ at))
-
-        back : PassInvariant a now' s next' (λ _. is) y k ⊎ PassInvariant a now' s next' (λ _. is) y j → Before
-        back (inl (inl h)) = inl ((taken_at k was one refl).1 (inl h))
-        back (inl (inr (inl h))) = inl ((taken_at k was one refl).1 (inr (inl h)))
-        back (inl (inr (inr (nil, at)))) = split nil at
-        back (inr (inl h)) = inr ((taken_at j was other refl).1 (inl h))
-        back (inr (inr (inl h))) = inr ((taken_at j was other refl).1 (inr (inl h)))
-        back (inr (inr (inr (nil, at)))) = split nil at
+-- no state is left
+pub dead_step : (m : NfaValue) (from to : StateSet) (b : ℕ) → ((y : List ℕ) (k : ℕ) → AcceptsFrom m from (b ∷ y) k ↔ AcceptsFrom m to y k) → ((t : ℕ) → has_state to t ≡ false) → (y : List ℕ) (k : ℕ) → AcceptsFrom m from (b ∷ y) k → ⊥
+dead_step m from to b steps none y k h = let (t, within, at, leads) = (steps y k).0 h in true≢false (sym at ∙ none t)
 
 -- two sets are swapped, each with as much room as before
 pub room_swapped : (x y a b m : ℕ) → x ≡ b → y ≡ a → min a b ≡ m → min x y ≡ m
 room_swapped x y a b m first second same = omega arith
 
 -- some index, of those below twice n
-pub below_all : (n : ℕ) (P : List ℕ → ℕ → Type 0) → ((k : ℕ) → P [] k → k < n + n) → ((k : ℕ) × P [] k) ↔ ((k : ℕ) × (k < n + n) × P [] k)
-below_all n P below = (λ (k, h). (k, below k h, h), λ (k, low, h). (k, h))
+pub below_all : (n : ℕ) (P : List ℕ → ℕ → Type 0) → ((k : ℕ) → P [] k → k < n + n) → ((i : ℕ) × (0 ≤ i) × P [] i) ↔ ((k : ℕ) × (k < n + n) × P [] k)
+below_all n P below = (λ (k, le, h). (k, below k h, h), λ (k, low, h). (k, omega arith, h))

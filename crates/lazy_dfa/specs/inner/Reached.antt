@@ -35,8 +35,3 @@ pub record HasRead (m : NfaValue) (old : Rows) (i : ℕ) (text : List ℕ) (new 
 pub record IsLeft (m : NfaValue) (old : Rows) (i : ℕ) (text : List ℕ) (had : IndexSet) (new : Rows) (has : IndexSet) (left : Left) : Type 0 where
   pub within : left.at ≤ length text
   pub row : (j : ℕ) × IsAt new j left.place × ((k : ℕ) → (FindsBy (half m) (AcceptsRow m new j) (drop left.at text) k ⊎ IsTrue (has_index has k)) ↔ (FindsBy (half m) (AcceptsRow m old i) text k ⊎ IsTrue (has_index had k)))
-
--- the new set has the old set's indexes, and otherwise only indexes that are found in the text
-pub record MayHold (m : NfaValue) (text : List ℕ) (old new : IndexSet) : Type 0 where
-  pub kept : (k : ℕ) → IsTrue (has_index old k) → IsTrue (has_index new k)
-  pub sound : (k : ℕ) → IsTrue (has_index new k) → FindsBy (half m) (IsReached m) text k ⊎ IsTrue (has_index old k)

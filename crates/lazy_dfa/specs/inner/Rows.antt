@@ -5,7 +5,6 @@ use Rattle.bit_sets.specs.Indexes.{has_index, index_capacity}
 use Rattle.bit_sets.specs.StateSets.{state_capacity}
 use Rattle.bit_sets.specs.Numbers.{has_number, AreBelow}
 use Rattle.byte_nfa.specs.Steps.{Accepts, NfaValue, IsReached}
-use Rattle.byte_nfa.specs.EarlyMatches.{EndsAtEarlyMatches}
 use Rattle.byte_nfa.specs.Runs.{size}
 use Rattle.lazy_dfa.specs.inner.Sources.{half, FitsU32}
 use Rattle.lazy_dfa.specs.inner.Classes.{AreEquivalenceClasses}

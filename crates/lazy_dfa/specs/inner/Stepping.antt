@@ -1,37 +1,38 @@
 -- Where a text leads, by sets of states.
-use Rattle.std.specs.Prelude.{◌≡◌, ℕ, ◌+◌, ◌<◌, ◌≤◌, ◌⊎◌, ◌↔◌, false, Bool, List, [], ◌∷◌, ◌++◌, Some, None, IsTrue}
+use Rattle.std.specs.Prelude.{◌≡◌, ℕ, ◌≤◌, ◌⊎◌, ◌↔◌, false, List, [], ◌∷◌, ◌++◌, Option, Some, IsTrue}
 use Rattle.bit_sets.specs.Indexes.{has_index}
 use Rattle.bit_sets.specs.declared.index_set.IndexSet.{IndexSet}
 use Rattle.bit_sets.specs.declared.state_set.StateSet.{StateSet}
-use Rattle.byte_nfa.specs.Steps.{NfaValue, state, match_state}
-use Rattle.byte_nfa.specs.Runs.{AcceptsFrom, HasSome}
-use Rattle.byte_nfa.specs.inner.Pass.{goes_next, names}
+use Rattle.bit_sets.specs.StateSets.{has_state}
+use Rattle.byte_nfa.specs.Steps.{NfaValue}
+use Rattle.byte_nfa.specs.Runs.{AcceptsFrom}
+use Rattle.byte_nfa.specs.inner.Pass.{AcceptsNow, PassInvariant}
 use Rattle.lazy_dfa.specs.inner.Sources.{half}
+use Rattle.lazy_dfa.specs.inner.Told.{ToldBy}
 use Rattle.lazy_dfa.specs.inner.Rows.{FindsBy}
-use Rattle.lazy_dfa.specs.declared.stepping.Taken.{Taken}
-use Rattle.lazy_dfa.specs.declared.stepping.Taken.TheVariants.{End, Next, Nothing}
 use Rattle.lazy_dfa.specs.declared.stepping.Led.{Led}
 use Rattle.lazy_dfa.specs.declared.stepping.Led.TheVariants.{Decided, NoState, States}
 
--- what the state s is, or does by the byte: the end of an index, or a step to a state that is no higher, or no step
-abbrev pub IsTaken : NfaValue → ℕ → ℕ → Taken → Type 0
-IsTaken m s b (End k) = (state m.states s ≡ match_state k) × (k < m.index_count)
-IsTaken m s b Next = ((k : ℕ) → names (state m.states s) None k ≡ false) × ((t : ℕ) × (t ≤ s) × IsTrue (goes_next (state m.states s) s (Some b) t))
-IsTaken m s b Nothing = ((k : ℕ) → names (state m.states s) None k ≡ false) × ((t : ℕ) → goes_next (state m.states s) s (Some b) t ≡ false)
+-- a state of the set below the limit leads without a byte to an end of the index i
+abbrev pub EndsBelow : NfaValue → StateSet → ℕ → ℕ → Type 0
+EndsBelow m from limit i = AcceptsNow m.states (has_state from) limit [] i
 
--- some index is decided in the states of the set
-abbrev pub DecidesSome : NfaValue → StateSet → Type 0
-DecidesSome m set = (k : ℕ) × (k < half m) × AcceptsFrom m set [] (half m + k)
+-- a state of the set below the limit accepts the byte and what follows, or a state of the other set accepts what follows
+abbrev pub StepsBelow : NfaValue → StateSet → ℕ → StateSet → ℕ → List ℕ → ℕ → Type 0
+StepsBelow m from limit to b y k = PassInvariant m.states (has_state from) limit (has_state to) (λ _. false) (b ∷ y) k
 
--- no index is decided in the states of the set, and the byte leads from them to the states of the other set, if there are any
-pub record IsUndecidedStep (m : NfaValue) (from : StateSet) (b : ℕ) (to : StateSet) (goes : Bool) : Type 0 where
-  pub undecided : DecidesSome m from → ⊥
-  pub steps : (y : List ℕ) (k : ℕ) → AcceptsFrom m from (b ∷ y) k ↔ AcceptsFrom m to y k
-  pub some : IsTrue goes ↔ HasSome m to
+-- the byte, if there is one, leads from the states of a set to those of the other set
+abbrev pub IsStepBy : NfaValue → StateSet → Option ℕ → StateSet → Type 0
+IsStepBy m from byte to = (b : ℕ) (y : List ℕ) (k : ℕ) → byte ≡ Some b → AcceptsFrom m from (b ∷ y) k ↔ AcceptsFrom m to y k
 
--- the new set has the indexes that are decided in the states of a set, in addition to the old set
-abbrev pub AddsDecided : NfaValue → StateSet → IndexSet → IndexSet → Type 0
-AddsDecided m set old new = (k : ℕ) → IsTrue (has_index new k) ↔ (((k < half m) × AcceptsFrom m set [] (half m + k)) ⊎ IsTrue (has_index old k))
+-- the states of the set lead without a byte to an end of an index from the lowest on
+abbrev pub HasEndFrom : NfaValue → StateSet → ℕ → Type 0
+HasEndFrom m set lowest = (i : ℕ) × (lowest ≤ i) × AcceptsFrom m set [] i
+
+-- the new set has what the ends tell that the states of a set lead to without a byte, of those of an index from the lowest on, in
+-- addition to the old set
+abbrev pub AddsTold : NfaValue → StateSet → ℕ → IndexSet → IndexSet → Type 0
+AddsTold m set lowest old new = (k : ℕ) → IsTrue (has_index new k) ↔ (ToldBy (half m) (AcceptsFrom m set []) lowest k ⊎ IsTrue (has_index old k))
 
 -- the new set has the indexes found in the text from the states of a set, in addition to the old set
 abbrev pub AddsFoundFrom : NfaValue → StateSet → List ℕ → IndexSet → IndexSet → Type 0

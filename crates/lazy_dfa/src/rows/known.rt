@@ -6,7 +6,7 @@ ghost use Rattle.lazy_dfa.specs.inner.Sources.{half};
 ghost use Rattle.lazy_dfa.specs.inner.Rows.{AcceptsRow, AddsFound, AddsMarks, HasTold, IsDeadBy, IsSound, BeginsAt, IsAt, IsKnownStep, IsPlainStep, IsMarkedStep, max_entries};
 
 use super::{DEAD, FIRST, MARKED, REMEMBERED, Rows, Step, UNKNOWN, entry_at, next_of};
-use crate::lists::{copy_within, put_found, put_marks};
+use crate::lists::{copy_within, tell_listed};
 use bit_sets::{IndexSet, Visits};
 use byte_nfa::Nfa;
 
@@ -108,7 +108,7 @@ impl Rows {
             return false;
         }
         let half = automaton.index_count() / 2;
-        put_marks(&self.lists, (end - FIRST) as usize, half, found);
+        tell_listed(&self.lists, (end - FIRST) as usize, half, half, found);
         true
     }
 
@@ -222,7 +222,7 @@ impl Rows {
         visits.tick();
         if end >= FIRST {
             let half = automaton.index_count() / 2;
-            put_found(&self.lists, (end - FIRST) as usize, half, found);
+            tell_listed(&self.lists, (end - FIRST) as usize, half, 0, found);
         }
         true
     }

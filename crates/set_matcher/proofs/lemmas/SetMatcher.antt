@@ -9,11 +9,10 @@ use Rattle.std.proofs.lemmas.List.Sums.{sum_by-append}
 use Rattle.glob_syntax.specs.declared.options.Options.{Options}
 use Rattle.glob_syntax.specs.Token.{Tokens, end, and_then}
 use Rattle.glob_syntax.specs.inner.Weight.{weight}
-use Rattle.byte_nfa.specs.Runs.{max_reads}
 use Rattle.bit_sets.specs.Texts.{AllBytes}
 use Rattle.glob_syntax.specs.After.{MeanAfter}
 use Rattle.glob_syntax.specs.TokensMatch.{tokens_match, is_prefix}
-use Rattle.glob_strategy.specs.IndexedTokens.{IndexedTokens, SomeMatches, IsFor, indexed}
+use Rattle.glob_strategy.specs.IndexedTokens.{IndexedTokens, SomeMatches, indexed}
 use Rattle.glob_strategy.proofs.lemmas.IndexedTokens.{none_for, some_push}
 use Rattle.glob_path.specs.Below.{folder_start, path_below}
 use Rattle.glob_path.specs.PathParts.{last_component, component_extension}
@@ -24,7 +23,9 @@ use Rattle.glob_strategy.proofs.lemmas.BeforeEnding.{weight_before}
 use Rattle.set_matcher.specs.inner.TokenGlobs.{TokenGlob, is_reported, is_reported_at, reads, load, SomeReportedBelow, load_below, reads_below}
 use Rattle.glob_path.specs.KeysBelow.{MatchesBelow}
 use Rattle.glob_path.specs.LiteralIndex.{KeyParts, MoreIn, keys_found}
-use Rattle.set_matcher.specs.inner.Automata.{AutomataParts, ExtensionParts, TokenLists, AreForLists, AreFor, AreFound, AreFoundBelow, AddsTokens, before_extension, folder_reads, nfa_under, no_automata, no_nfa, reads_for, tokens_under, total_reads}
+use Rattle.set_matcher.specs.inner.Automata.{AutomataParts, TokenLists, AreForLists, AreFound, AreFoundBelow, AddsTokens, before_extension, folder_reads, no_automata, no_nfa, reads_for, tokens_under}
+use Rattle.set_matcher.specs.inner.Builders.{AddsTo, AddsToExtension}
+use Rattle.set_matcher.specs.declared.automata.Target.TheVariants.{Path, LastComponent}
 use Rattle.set_matcher.specs.inner.SetMatcher.{SetMatcherParts, IsSetMatcherOf, set_matcher_parts, listed_count}
 use Rattle.set_matcher.proofs.lemmas.Automata.{extension_cut}
 use Rattle.set_matcher.proofs.lemmas.Matching.{some_listed}
@@ -163,27 +164,6 @@ excluded_added globs g n old at tells none before =
 
 -- ---- tokens more
 
-pub tokens_added : (globs : List TokenGlob) (g : TokenGlob) (n : ℕ) (old new : SetMatcherParts) (before : IsSetMatcherOf globs old) (tokens : TokenLists) → n ≡ length globs → new.keys ≡ old.keys → AreForLists new.automata tokens
-    → ((path : List ℕ) (k : ℕ) → AreFound new.automata.extensions.slots tokens path k ↔ (AreFound old.automata.extensions.slots before.tokens path k ⊎ IsNew n g path k))
-    → ((path : List ℕ) → reads_for new.automata path ≤ reads_for old.automata path + reads g path)
-    → ((folder : List ℕ) → AllBytes folder → AreFoundBelow new.automata.extensions tokens folder ↔ (AreFoundBelow old.automata.extensions before.tokens folder ⊎ AreReportedBelow g.options g.tokens folder))
-    → folder_reads new.automata ≤ folder_reads old.automata + reads_below g → IsSetMatcherOf (globs ++ g ∷ []) new
-tokens_added globs g n old new before tokens at keys are more size below few = record {
-  tokens = tokens;
-  are_for = are;
-  same = λ path k. new_listed globs g n path k at
-      (subst (λ (t : KeyParts). (Contains (keys_found t path) k ⊎ AreFound new.automata.extensions.slots tokens path k)
-      ↔ ((Contains (keys_found old.keys path) k ⊎ AreFound old.automata.extensions.slots before.tokens path k) ⊎ IsNew n g path k)) (sym keys) (right_more (more path k)))
-      (before.same path k);
-  once = λ path. let same = ap (λ t. length (keys_found t path)) keys in omega (arith, same, before.once path, count_push globs g path);
-  reads = λ path. omega (arith, size path, before.reads path, load_push globs g path);
-  below = λ folder bytes. new_below globs g folder
-      (subst (λ (t : KeyParts). (MatchesBelow t folder ⊎ AreFoundBelow new.automata.extensions tokens folder)
-      ↔ ((MatchesBelow old.keys folder ⊎ AreFoundBelow old.automata.extensions before.tokens folder) ⊎ AreReportedBelow g.options g.tokens folder)) (sym keys) (right_more (below folder bytes)))
-      (before.below folder bytes);
-  few_below = omega (arith, few, before.few_below, load_below_push globs g);
-}
-
 -- tokens more, which match the part of the path just if the glob is reported
 some_added : (x : IndexedTokens) (xs : List IndexedTokens) (g : TokenGlob) (n : ℕ) (text path : List ℕ) (k : ℕ) → x.index ≡ n → is_reported g path ≡ tokens_match x.options x.tokens text
     → SomeMatches (xs ++ x ∷ []) text k ↔ (SomeMatches xs text k ⊎ IsNew n g path k)
@@ -207,118 +187,98 @@ weight_after o (and_then t ts) = choice (is_prefix t)
     choice true = omega arith
     choice false = omega arith
 
-pub by_path_added : (globs : List TokenGlob) (g : TokenGlob) (n : ℕ) (old new : SetMatcherParts) → n ≡ length globs → new.keys ≡ old.keys
-    → ((path : List ℕ) → is_reported g path ≡ tokens_match g.options g.tokens path) → ((path : List ℕ) → needs_automaton g.options g.tokens path ≡ true)
-    → ((xs : List IndexedTokens) → IsFor old.automata.by_path xs → IsFor new.automata.by_path (xs ++ indexed g.options g.tokens n ∷ [])) → max_reads new.automata.by_path ≤ max_reads old.automata.by_path + (weight g.options g.tokens + 4)
-    → new.automata.by_component ≡ old.automata.by_component → new.automata.extensions ≡ old.automata.extensions → is_direct g.options g.tokens ≡ false
-    → ((folder : List ℕ) → AllBytes folder → AreReportedBelow g.options g.tokens folder ↔ MeanAfter g.options g.tokens (folder_start folder)) → IsSetMatcherOf globs old → IsSetMatcherOf (globs ++ g ∷ []) new
-by_path_added globs g n old new at keys tells needs adds few component extensions indirect sound_below before =
-    tokens_added globs g n old new before tokens at keys
-    (record {
-      path = adds before.tokens.by_path before.are_for.path;
-      component = subst (λ m. IsFor m before.tokens.by_component) (sym component) before.are_for.component;
-      matchers = subst (λ (e : ExtensionParts). AreFor e.nfas before.tokens.by_slot) (sym extensions) before.are_for.matchers;
-    })
-    (λ path k. subst (λ (e : ExtensionParts). AreFound e.slots tokens path k ↔ (AreFound old.automata.extensions.slots before.tokens path k ⊎ IsNew n g path k)) (sym extensions)
-    (left_more (some_added (indexed g.options g.tokens n) before.tokens.by_path g n path path k refl (tells path))))
-    (λ path. let one = ap max_reads component in let two = ap (λ (e : ExtensionParts). max_reads (nfa_under e (component_extension path))) extensions in let maximum = needed g path (needs path) in omega (arith, few, one, two, maximum))
-    (λ folder bytes. subst (λ (e : ExtensionParts). AreFoundBelow e tokens folder ↔ (AreFoundBelow old.automata.extensions before.tokens folder ⊎ AreReportedBelow g.options g.tokens folder)) (sym extensions)
-    (right_more (left_more (as_listed (after_push before.tokens.by_path (indexed g.options g.tokens n) (folder_start folder)) (sound_below folder bytes)))))
-    (let all = ap (λ (e : ExtensionParts). total_reads e.nfas) extensions in let maximum = needed_below g indirect in omega (arith, few, all, maximum))
-  where
-    tokens : TokenLists
-    tokens = record {
-      by_path = before.tokens.by_path ++ indexed g.options g.tokens n ∷ [];
-      by_component = before.tokens.by_component;
-      by_slot = before.tokens.by_slot;
-    }
+module _ (globs : List TokenGlob) (g : TokenGlob) (n : ℕ) (at : n ≡ length globs) (keys : KeyParts) (old : AutomataParts) (before : IsSetMatcherOf globs (set_matcher_parts keys old)) where
+  tokens_added : (new : AutomataParts) (tokens : TokenLists) → AreForLists new tokens
+      → ((path : List ℕ) (k : ℕ) → AreFound new.extensions.slots tokens path k ↔ (AreFound old.extensions.slots before.tokens path k ⊎ IsNew n g path k))
+      → ((path : List ℕ) → reads_for new path ≤ reads_for old path + reads g path)
+      → ((folder : List ℕ) → AllBytes folder → AreFoundBelow new.extensions tokens folder ↔ (AreFoundBelow old.extensions before.tokens folder ⊎ AreReportedBelow g.options g.tokens folder))
+      → folder_reads new ≤ folder_reads old + reads_below g → IsSetMatcherOf (globs ++ g ∷ []) (set_matcher_parts keys new)
+  tokens_added new tokens are more size below few = record {
+    tokens = tokens;
+    are_for = are;
+    same = λ path k. new_listed globs g n path k at (right_more (more path k)) (before.same path k);
+    once = λ path. omega (arith, before.once path, count_push globs g path);
+    reads = λ path. omega (arith, size path, before.reads path, load_push globs g path);
+    below = λ folder bytes. new_below globs g folder (right_more (below folder bytes)) (before.below folder bytes);
+    few_below = omega (arith, few, before.few_below, load_below_push globs g);
+  }
 
-pub by_component_added : (globs : List TokenGlob) (g : TokenGlob) (n : ℕ) (ts : Tokens) (old new : SetMatcherParts) → n ≡ length globs → new.keys ≡ old.keys → ts ≡ after_prefix g.tokens
-    → ((path : List ℕ) → is_reported g path ≡ tokens_match g.options (after_prefix g.tokens) (last_component path)) → ((path : List ℕ) → needs_automaton g.options g.tokens path ≡ true)
-    → ((xs : List IndexedTokens) → IsFor old.automata.by_component xs → IsFor new.automata.by_component (xs ++ indexed g.options ts n ∷ [])) → max_reads new.automata.by_component ≤ max_reads old.automata.by_component + (weight g.options ts + 4)
-    → new.automata.by_path ≡ old.automata.by_path → new.automata.extensions ≡ old.automata.extensions
-    → ((folder : List ℕ) → AllBytes folder → AreReportedBelow g.options g.tokens folder ↔ MeanAfter g.options (after_prefix g.tokens) []) → IsSetMatcherOf globs old → IsSetMatcherOf (globs ++ g ∷ []) new
-by_component_added globs g n ts old new at keys rest tells needs adds few by_path extensions sound_below before =
-    tokens_added globs g n old new before tokens at keys
-    (record {
-      path = subst (λ m. IsFor m before.tokens.by_path) (sym by_path) before.are_for.path;
-      component = adds before.tokens.by_component before.are_for.component;
-      matchers = subst (λ (e : ExtensionParts). AreFor e.nfas before.tokens.by_slot) (sym extensions) before.are_for.matchers;
-    })
-    (λ path k. subst (λ (e : ExtensionParts). AreFound e.slots tokens path k ↔ (AreFound old.automata.extensions.slots before.tokens path k ⊎ IsNew n g path k)) (sym extensions)
-    (right_more (left_more (some_added (indexed g.options ts n) before.tokens.by_component g n (last_component path) path k refl (tells path ∙ ap (λ us. tokens_match g.options us (last_component path)) (sym rest))))))
-    (λ path. let one = ap max_reads by_path in let two = ap (λ (e : ExtensionParts). max_reads (nfa_under e (component_extension path))) extensions in let maximum = needed g path (needs path) in
-    let fewer = weight_after g.options g.tokens in let same = ap (weight g.options) rest in omega (arith, few, one, two, maximum, fewer, same))
-    (λ folder bytes. subst (λ (e : ExtensionParts). AreFoundBelow e tokens folder ↔ (AreFoundBelow old.automata.extensions before.tokens folder ⊎ AreReportedBelow g.options g.tokens folder)) (sym extensions)
-    (left_more (as_listed (after_push before.tokens.by_component (indexed g.options ts n) [])
-    (subst (λ us. AreReportedBelow g.options g.tokens folder ↔ MeanAfter g.options us []) (sym rest) (sound_below folder bytes)))))
-    (let one = ap max_reads by_path in let all = ap (λ (e : ExtensionParts). total_reads e.nfas) extensions in omega (arith, one, all))
-  where
-    tokens : TokenLists
-    tokens = record {
-      by_path = before.tokens.by_path;
-      by_component = before.tokens.by_component ++ indexed g.options ts n ∷ [];
-      by_slot = before.tokens.by_slot;
-    }
+  pub by_path_added : (new : AutomataParts) → AddsTo Path old new (indexed g.options g.tokens n)
+      → ((path : List ℕ) → is_reported g path ≡ tokens_match g.options g.tokens path) → ((path : List ℕ) → needs_automaton g.options g.tokens path ≡ true) → is_direct g.options g.tokens ≡ false
+      → ((folder : List ℕ) → AllBytes folder → AreReportedBelow g.options g.tokens folder ↔ MeanAfter g.options g.tokens (folder_start folder)) → IsSetMatcherOf (globs ++ g ∷ []) (set_matcher_parts keys new)
+  by_path_added new (adds, others) tells needs indirect sound_below =
+      let x = indexed g.options g.tokens n in
+      let xs = before.tokens.by_path in
+      let few = adds.reads in
+      subst (λ a. IsSetMatcherOf (globs ++ g ∷ []) (set_matcher_parts keys a)) (sym others)
+      (tokens_added (record old { by_path = new.by_path }) (record before.tokens { by_path = xs ++ x ∷ [] })
+      (record { path = adds.tokens xs before.are_for.path; component = before.are_for.component; matchers = before.are_for.matchers })
+      (λ path k. left_more (some_added x xs g n path path k refl (tells path)))
+      (λ path. let maximum = needed g path (needs path) in omega (arith, few, maximum))
+      (λ folder bytes. right_more (left_more (as_listed (after_push xs x (folder_start folder)) (sound_below folder bytes))))
+      (let maximum = needed_below g indirect in omega (arith, few, maximum)))
 
-pub by_extension_added : (globs : List TokenGlob) (g : TokenGlob) (n : ℕ) (key : List ℕ) (ts : Tokens) (old new : SetMatcherParts) → n ≡ length globs → new.keys ≡ old.keys → ts ≡ before_ending g.tokens
-    → ((path : List ℕ) → (IsTrue (is_reported g path) → component_extension path ≡ key) × ((front : List ℕ) → front ++ key ≡ path → is_reported g path ≡ tokens_match g.options (before_ending g.tokens) front))
-    → ((path : List ℕ) → bytes_eq key (component_extension path) ≡ true → needs_automaton g.options g.tokens path ≡ true)
-    → ((before : ℕ → List IndexedTokens) → AreFor old.automata.extensions.nfas before → AddsTokens old.automata.extensions before new.automata.extensions key (indexed g.options ts n))
-    → ((extension : List ℕ) → max_reads (nfa_under new.automata.extensions extension) ≤ max_reads (nfa_under old.automata.extensions extension) + cond (bytes_eq key extension) (weight g.options ts + 4) 0)
-    → total_reads new.automata.extensions.nfas ≤ total_reads old.automata.extensions.nfas + (weight g.options ts + 4)
-    → new.automata.by_path ≡ old.automata.by_path → new.automata.by_component ≡ old.automata.by_component → is_direct g.options g.tokens ≡ false
-    → ((folder : List ℕ) → AllBytes folder → AreReportedBelow g.options g.tokens folder ↔ MeanAfter g.options (before_ending g.tokens) (folder_start folder)) → IsSetMatcherOf globs old → IsSetMatcherOf (globs ++ g ∷ []) new
-by_extension_added globs g n key ts old new at keys rest tells needs adds few many by_path component indirect sound_below before =
-    tokens_added globs g n old new before tokens at keys
-    (record {
-      path = subst (λ m. IsFor m before.tokens.by_path) (sym by_path) before.are_for.path;
-      component = subst (λ m. IsFor m before.tokens.by_component) (sym component) before.are_for.component;
-      matchers = now.are_for;
-    })
-    (λ path k. right_more (right_more (by_key path k (cases_Bool (bytes_eq key (component_extension path))))))
-    (λ path. by_size path (cases_Bool (bytes_eq key (component_extension path))))
-    (λ folder bytes. right_more (right_more (as_listed (now.after (folder_start folder))
-    (subst (λ us. AreReportedBelow g.options g.tokens folder ↔ MeanAfter g.options us (folder_start folder)) (sym rest) (sound_below folder bytes)))))
-    (let one = ap max_reads by_path in let maximum = needed_below g indirect in
-    let fewer = weight_before g.options g.tokens in let same = ap (weight g.options) rest in omega (arith, many, one, maximum, fewer, same))
-  where
-    now : AddsTokens old.automata.extensions before.tokens.by_slot new.automata.extensions key (indexed g.options ts n)
-    now = adds before.tokens.by_slot before.are_for.matchers
+  pub by_component_added : (new : AutomataParts) → AddsTo LastComponent old new (indexed g.options (after_prefix g.tokens) n)
+      → ((path : List ℕ) → is_reported g path ≡ tokens_match g.options (after_prefix g.tokens) (last_component path)) → ((path : List ℕ) → needs_automaton g.options g.tokens path ≡ true)
+      → ((folder : List ℕ) → AllBytes folder → AreReportedBelow g.options g.tokens folder ↔ MeanAfter g.options (after_prefix g.tokens) []) → IsSetMatcherOf (globs ++ g ∷ []) (set_matcher_parts keys new)
+  by_component_added new (adds, others) tells needs sound_below =
+      let x = indexed g.options (after_prefix g.tokens) n in
+      let xs = before.tokens.by_component in
+      let few = adds.reads in
+      subst (λ a. IsSetMatcherOf (globs ++ g ∷ []) (set_matcher_parts keys a)) (sym others)
+      (tokens_added (record old { by_component = new.by_component }) (record before.tokens { by_component = xs ++ x ∷ [] })
+      (record { path = before.are_for.path; component = adds.tokens xs before.are_for.component; matchers = before.are_for.matchers })
+      (λ path k. right_more (left_more (some_added x xs g n (last_component path) path k refl (tells path))))
+      (λ path. let maximum = needed g path (needs path) in let fewer = weight_after g.options g.tokens in omega (arith, few, maximum, fewer))
+      (λ folder bytes. left_more (as_listed (after_push xs x []) (sound_below folder bytes)))
+      (omega arith))
 
-    tokens : TokenLists
-    tokens = record {
-      by_path = before.tokens.by_path;
-      by_component = before.tokens.by_component;
-      by_slot = now.tokens;
-    }
+  pub by_extension_added : (key : List ℕ) (new : AutomataParts)
+      → AddsToExtension key old.extensions new.extensions (indexed g.options (before_ending g.tokens) n) × (new ≡ record old { extensions = new.extensions })
+      → ((path : List ℕ) → (IsTrue (is_reported g path) → component_extension path ≡ key) × ((front : List ℕ) → front ++ key ≡ path → is_reported g path ≡ tokens_match g.options (before_ending g.tokens) front))
+      → ((path : List ℕ) → bytes_eq key (component_extension path) ≡ true → needs_automaton g.options g.tokens path ≡ true) → is_direct g.options g.tokens ≡ false
+      → ((folder : List ℕ) → AllBytes folder → AreReportedBelow g.options g.tokens folder ↔ MeanAfter g.options (before_ending g.tokens) (folder_start folder)) → IsSetMatcherOf (globs ++ g ∷ []) (set_matcher_parts keys new)
+  by_extension_added key new (adds, others) tells needs indirect sound_below =
+      subst (λ a. IsSetMatcherOf (globs ++ g ∷ []) (set_matcher_parts keys a)) (sym others)
+      (tokens_added (record old { extensions = new.extensions }) (record before.tokens { by_slot = now.tokens })
+      (record { path = before.are_for.path; component = before.are_for.component; matchers = now.are_for })
+      (λ path k. right_more (right_more (by_key path k (cases_Bool (bytes_eq key (component_extension path))))))
+      (λ path. by_size path (cases_Bool (bytes_eq key (component_extension path))))
+      (λ folder bytes. right_more (right_more (as_listed (now.after (folder_start folder)) (sound_below folder bytes))))
+      (let many = adds.total in let maximum = needed_below g indirect in let fewer = weight_before g.options g.tokens in omega (arith, many, maximum, fewer)))
+    where
+      x : IndexedTokens
+      x = indexed g.options (before_ending g.tokens) n
 
-    by_key : (path : List ℕ) (k : ℕ) → (bytes_eq key (component_extension path) ≡ true) ⊎ (bytes_eq key (component_extension path) ≡ false)
-        → SomeMatches (tokens_under now.tokens new.automata.extensions.slots (component_extension path)) (before_extension path) k
-        ↔ (SomeMatches (tokens_under before.tokens.by_slot old.automata.extensions.slots (component_extension path)) (before_extension path) k ⊎ IsNew n g path k)
-    by_key path k h =
-        let e = component_extension path in
-        let text : List ℕ = before_extension path in
-        let was = tokens_under before.tokens.by_slot old.automata.extensions.slots e in
-        ⊎_elim {C = SomeMatches (tokens_under now.tokens new.automata.extensions.slots e) text k ↔ (SomeMatches was text k ⊎ IsNew n g path k)}
-        (λ y.
-        let cut : text ++ key ≡ path = ap (λ l. text ++ l) ((bytes_decides key e).0 y) ∙ extension_cut path in
-        subst (λ xs. SomeMatches xs text k ↔ (SomeMatches was text k ⊎ IsNew n g path k)) (sym (now.added e (sym ((bytes_decides key e).0 y))))
-        (some_added (indexed g.options ts n) was g n text path k refl ((tells path).1 text cut ∙ ap (λ us. tokens_match g.options us text) (sym rest))))
-        (λ off. subst (λ xs. SomeMatches xs text k ↔ (SomeMatches was text k ⊎ IsNew n g path k)) (sym (now.others e (λ is. let y = (bytes_decides key e).1 (sym is) in absurd (cc)))) (
-          (λ some. inl some),
-          (λ either. ⊎_elim {C = SomeMatches was text k} (λ some. some) (λ new. let is = (tells path).0 new.1 in let y = (bytes_decides key e).1 (sym is) in absurd (cc)) either),
-        )) h
+      now : AddsTokens old.extensions before.tokens.by_slot new.extensions key x
+      now = adds.tokens before.tokens.by_slot before.are_for.matchers
 
-    by_size : (path : List ℕ) → (bytes_eq key (component_extension path) ≡ true) ⊎ (bytes_eq key (component_extension path) ≡ false)
-        → reads_for new.automata path ≤ reads_for old.automata path + reads g path
-    by_size path h =
-        let e = component_extension path in
-        let one = ap max_reads by_path in let two = ap max_reads component in let maximum = few e in
-        let fewer = weight_before g.options g.tokens in let same = ap (weight g.options) rest in
-        ⊎_elim {C = reads_for new.automata path ≤ reads_for old.automata path + reads g path}
-        (λ y. let run = needed g path (needs path y) in let three = ap (λ b. cond b (weight g.options ts + 4) 0) y in omega (arith, one, two, maximum, run, three, fewer, same))
-        (λ off. let three = ap (λ b. cond b (weight g.options ts + 4) 0) off in omega (arith, one, two, maximum, three)) h
+      by_key : (path : List ℕ) (k : ℕ) → (bytes_eq key (component_extension path) ≡ true) ⊎ (bytes_eq key (component_extension path) ≡ false)
+          → SomeMatches (tokens_under now.tokens new.extensions.slots (component_extension path)) (before_extension path) k
+          ↔ (SomeMatches (tokens_under before.tokens.by_slot old.extensions.slots (component_extension path)) (before_extension path) k ⊎ IsNew n g path k)
+      by_key path k h =
+          let e = component_extension path in
+          let text : List ℕ = before_extension path in
+          let was = tokens_under before.tokens.by_slot old.extensions.slots e in
+          ⊎_elim {C = SomeMatches (tokens_under now.tokens new.extensions.slots e) text k ↔ (SomeMatches was text k ⊎ IsNew n g path k)}
+          (λ y.
+          let cut : text ++ key ≡ path = ap (λ l. text ++ l) ((bytes_decides key e).0 y) ∙ extension_cut path in
+          subst (λ xs. SomeMatches xs text k ↔ (SomeMatches was text k ⊎ IsNew n g path k)) (sym (now.added e (sym ((bytes_decides key e).0 y))))
+          (some_added x was g n text path k refl ((tells path).1 text cut)))
+          (λ off. subst (λ xs. SomeMatches xs text k ↔ (SomeMatches was text k ⊎ IsNew n g path k)) (sym (now.others e (λ is. let y = (bytes_decides key e).1 (sym is) in absurd (cc)))) (
+            (λ some. inl some),
+            (λ either. ⊎_elim {C = SomeMatches was text k} (λ some. some) (λ new. let is = (tells path).0 new.1 in let y = (bytes_decides key e).1 (sym is) in absurd (cc)) either),
+          )) h
+
+      by_size : (path : List ℕ) → (bytes_eq key (component_extension path) ≡ true) ⊎ (bytes_eq key (component_extension path) ≡ false)
+          → reads_for (record old { extensions = new.extensions }) path ≤ reads_for old path + reads g path
+      by_size path h =
+          let e = component_extension path in
+          let maximum = adds.reads e in
+          let fewer = weight_before g.options g.tokens in
+          ⊎_elim {C = reads_for (record old { extensions = new.extensions }) path ≤ reads_for old path + reads g path}
+          (λ y. let run = needed g path (needs path y) in let three = ap (λ b. cond b (weight g.options (before_ending g.tokens) + 4) 0) y in omega (arith, maximum, run, three, fewer))
+          (λ off. let three = ap (λ b. cond b (weight g.options (before_ending g.tokens) + 4) 0) off in omega (arith, maximum, three)) h
 
 -- ---- no globs
 

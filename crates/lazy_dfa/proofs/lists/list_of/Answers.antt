@@ -1,22 +1,13 @@
-use Rattle.std.proofs.Common.{◌≡◌, ℕ, ◌<◌, ◌≤◌, Bool, false, true≢false, List, [], ◌∷◌, ◌++◌, length, slice_index, IsTrue, arith, sym, ap, subst, ◌∙◌, length-append}
+use Rattle.std.proofs.Common.{◌≡◌, ℕ, ◌<◌, ◌≤◌, Bool, false, true≢false, List, [], ◌∷◌, ◌++◌, IsTrue, arith, sym, ap, subst, ◌∙◌, length-append}
 use Rattle.std.specs.Prelude.{◌↔◌, ◌==◌}
 use Rattle.std.proofs.lemmas.Bool.{cases_lt, eq-eqb, eqb-true, or_cases}
-use Rattle.std.proofs.lemmas.List.{get_or_append_left}
 use Rattle.std.proofs.Math.Logic.{⊎_elim}
-use Rattle.std.proofs.Math.Seq.{get_or-append_seam}
-use Rattle.bit_sets.specs.Numbers.{has_number, AreBelow}
+use Rattle.bit_sets.specs.Numbers.{has_number}
 use Rattle.bit_sets.specs.StateSets.{has_state}
 use Rattle.byte_nfa.proofs.lemmas.Pass.{or_first, or_second}
+use Rattle.lazy_dfa.proofs.lemmas.Listing.{below_more}
 use Rattle.lazy_dfa.proofs.lemmas.Lists.{listed_push}
 use Rattle.lazy_dfa.proofs.lists.list_of.Goals as goal
-
-below_push : (n s : ℕ) (list : List ℕ) → s < n → AreBelow n list → AreBelow n (list ++ s ∷ [])
-below_push n s list lt below i small =
-    let len = length-append list (s ∷ []) in
-    ⊎_elim {C = slice_index (list ++ s ∷ []) i < n}
-    (λ low. rw (get_or_append_left list (s ∷ []) 0 i low) (below i low))
-    (λ past. let e : i ≡ length list = omega arith in rw (ap (slice_index (list ++ s ∷ [])) e ∙ get_or-append_seam list s [] 0) lt)
-    (cases_lt i (length list))
 
 -- the states down to s are listed, of which none between s and the bound before is in the set
 module _ (n s high : ℕ) (set : ℕ → Bool) (list : List ℕ) (lt : s < high) (le : high ≤ n) (between : (k : ℕ) → s < k → k < high → set k ≡ false)
@@ -66,7 +57,7 @@ loop-high-preserved-then-seen c =
     let list = c.loop-high.list.items in
     rw c.push_within.ensures.items record {
       within = omega (arith, last.below);
-      below = below_push n s list (omega (arith, last.below)) inv.below;
+      below = below_more n s list (omega (arith, last.below)) inv.below;
       few = omega (arith, last.below, length-append list (s ∷ []));
       has = listed_more n s c.loop-high.high (has_state c.args.set.now) list last.below inv.within last.between inv.has (sym last.marked ∙ c.if-seen.true);
       capacity = omega (arith, c.push_within.ensures.capacity);

@@ -1,28 +1,25 @@
-use Rattle.std.proofs.Common.{◌≡◌, ℕ, ◌+◌, ◌≤◌, [], ◌∷◌, ◌⊎◌, List, false, IsTrue, IsFalse}
+use Rattle.std.proofs.Common.{◌≡◌, ℕ, ◌+◌, ◌≤◌, ◌⊎◌, List, [], ◌∷◌, Some, IsTrue}
 use Rattle.std.specs.Prelude.{◌↔◌}
 use Rattle.bit_sets.specs.Indexes.{has_index, index_capacity}
-use Rattle.bit_sets.specs.StateSets.{has_state, state_capacity}
-use Rattle.byte_nfa.specs.Runs.{size, HasSome}
-use Rattle.byte_nfa.specs.inner.Pass.{AcceptsNow, PassInvariant}
+use Rattle.bit_sets.specs.StateSets.{state_capacity}
+use Rattle.byte_nfa.specs.Runs.{size, AcceptsFrom}
+use Rattle.lazy_dfa.specs.inner.Stepping.{StepsBelow, EndsBelow}
 use Rattle.lazy_dfa.specs.inner.Sources.{half}
+use Rattle.lazy_dfa.specs.inner.Told.{ToldBy}
 use Rattle.lazy_dfa.proofs.stepping.step.Given as goal
 
-abbrev pub invariant-loop-limit : goal.invariant-loop-limit
-invariant-loop-limit l =
-    let m = l.automaton in
-    let a = m.states in
-    let n = size m in record {
-      within : l.limit ≤ n;
+abbrev pub invariant-loop-index : goal.invariant-loop-index
+invariant-loop-index l =
+    let m = l.automaton in record {
+      within : l.limit ≤ size m;
       from_capacity : state_capacity l.from ≡ state_capacity l.fn.from;
       to_capacity : state_capacity l.to ≡ state_capacity l.fn.to;
       room : index_capacity l.found ≡ index_capacity l.fn.found;
-      steps : (y : List ℕ) (k : ℕ) → AcceptsNow a (has_state l.fn.from) n (l.byte ∷ y) k ↔ PassInvariant a (has_state l.from) l.limit (has_state l.to) (λ _. false) (l.byte ∷ y) k;
-      decided : (k : ℕ) → (AcceptsNow a (has_state l.fn.from) n [] (half m + k) ⊎ IsTrue (has_index l.fn.found k)) ↔ PassInvariant a (has_state l.from) l.limit (λ _. false) (λ _. has_index l.found k) [] (half m + k);
-      some : IsTrue l.some → HasSome m l.to;
-      without : IsFalse l.some → (t : ℕ) → has_state l.to t ≡ false;
-      visits : l.visits + l.limit ≤ l.fn.visits + n;
+      steps : (b : ℕ) (y : List ℕ) (k : ℕ) → l.byte ≡ Some b → AcceptsFrom m l.fn.from (b ∷ y) k ↔ StepsBelow m l.from l.limit l.to b y k;
+      told : (k : ℕ) → (ToldBy (half m) (AcceptsFrom m l.fn.from []) l.lowest k ⊎ IsTrue (has_index l.fn.found k)) ↔ (ToldBy (half m) (EndsBelow m l.from l.limit) l.lowest k ⊎ IsTrue (has_index l.found k));
+      visits : l.visits + l.limit ≤ l.fn.visits + size m;
       counted : l.fn.visits ≤ l.visits;
     }
 
-abbrev pub decreases-loop-limit : goal.decreases-loop-limit
-decreases-loop-limit l = l.limit
+abbrev pub decreases-loop-index : goal.decreases-loop-index
+decreases-loop-index l = l.limit

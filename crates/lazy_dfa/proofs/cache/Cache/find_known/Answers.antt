@@ -1,20 +1,25 @@
-use Rattle.std.proofs.Common.{◌≡◌, subst}
+use Rattle.std.proofs.Common.{◌≡◌, ◌∙◌, subst, sym}
 use Rattle.bit_sets.proofs.lemmas.Texts.{all_bytes}
 use Rattle.byte_nfa.proofs.lemmas.Pass.{iff_trans}
-use Rattle.lazy_dfa.proofs.lemmas.Finding.{iff_beside}
-use Rattle.byte_nfa.specs.Steps.{NfaValue}
-use Rattle.lazy_dfa.specs.inner.Sources.{RunsFor}
+use Rattle.byte_nfa.specs.Steps.{IsReached, NfaValue}
+use Rattle.lazy_dfa.specs.inner.Rows.{AcceptsRow, BeginsAt}
+use Rattle.lazy_dfa.specs.inner.Sources.{RunsFor, half}
+use Rattle.lazy_dfa.proofs.lemmas.Finding.{finds_same, iff_beside}
+use Rattle.lazy_dfa.proofs.lemmas.Reading.{finds_some, found_before}
 use Rattle.lazy_dfa.proofs.lemmas.Running.{found_for}
 use Rattle.lazy_dfa.proofs.cache.Cache.find_known.Goals as goal
 
 pub returns-clause-found : goal.returns-clause-found
-returns-clause-found c = λ all k.
+returns-clause-found c = λ on k.
     let text = c.args.text.now in
     let bytes = all_bytes text (λ j. (c.type_inv.text j).fits) in
     let m = c.automaton-automaton.result.now in
     let is : c.deref.result.now.nfa ≡ c.args.self.now = cc in
     let runs = subst (λ (x : NfaValue). RunsFor x m) is c.automaton-automaton.ensures.runs in
-    iff_trans (c.find_known.ensures.found all k) (iff_beside (found_for c.args.self.now m runs text bytes k))
+    let rows = c.deref-3.result.now in
+    let (j, at, begins) = subst (λ r. BeginsAt m r c.in-Some.place) (c.deref-2.ensures ∙ sym c.deref-3.ensures) c.in-Some.ensures in
+    iff_trans (finds_some m rows j text c.args.found.now c.find_from.new.found c.find_from.result c.is_none.result (c.find_from.ensures.found j at) c.is_none.ensures on k)
+    (iff_beside (iff_trans (finds_same (half m) (AcceptsRow m rows j) (IsReached m) begins text k) (found_for c.args.self.now m runs text bytes k)))
 
 pub returns-clause-sound : goal.returns-clause-sound
 returns-clause-sound c = λ k h.
@@ -23,4 +28,7 @@ returns-clause-sound c = λ k h.
     let m = c.automaton-automaton.result.now in
     let is : c.deref.result.now.nfa ≡ c.args.self.now = cc in
     let runs = subst (λ (x : NfaValue). RunsFor x m) is c.automaton-automaton.ensures.runs in
-    (iff_beside (found_for c.args.self.now m runs text bytes k)).0 (c.find_known.ensures.some.sound k h)
+    let rows = c.deref-3.result.now in
+    let (j, at, begins) = subst (λ r. BeginsAt m r c.in-Some.place) (c.deref-2.ensures ∙ sym c.deref-3.ensures) c.in-Some.ensures in
+    (iff_beside (found_for c.args.self.now m runs text bytes k)).0
+    (found_before m rows j text c.args.found.now c.find_from.new.found c.find_from.result begins (c.find_from.ensures.found j at) k h)

@@ -7,7 +7,7 @@ use Rattle.byte_nfa.specs.Steps.{IsReached}
 use Rattle.byte_nfa.proofs.lemmas.Pass.{iff_trans}
 use Rattle.lazy_dfa.specs.inner.Sources.{half}
 use Rattle.lazy_dfa.specs.inner.Rows.{AcceptsRow}
-use Rattle.lazy_dfa.proofs.lemmas.Finding.{iff_beside, finds_same, next_found, dead_found, last_found, none_last, visits_left, visits_stepped}
+use Rattle.lazy_dfa.proofs.lemmas.Finding.{iff_beside, finds_same, next_found, dead_found, last_told, none_last, visits_left, visits_stepped}
 use Rattle.lazy_dfa.proofs.lemmas.Rows.{none_reached}
 use Rattle.lazy_dfa.proofs.rows.Rows.find.Goals as goal
 
@@ -43,15 +43,12 @@ returns-then-finish-clause-found c = λ k.
     let m = c.args.automaton.now in
     let rows = c.loop-left.self in
     let rest = c.loop-left.rest.now in
-    let first = rw c.index_count-half.ensures at c.put_lowered.ensures.has k in
-    let second = rw c.index_count-half.ensures at c.put_lowered-then-finish.ensures.has k in
-    let none : 0 + k ≡ k = omega arith in
+    let told = rw c.index_count-half.ensures at c.tell_ends.ensures.has in
     let (j, at, runs) = c.loop-left.invariant.runs in
     let left = rw c.in-Some.is at c.find_from.ensures.found j at in
     let (j', at', finds) = left.row in
     let past : drop c.in-Some.left.at rest ≡ [] = drop_all c.in-Some.left.at rest (omega arith) in
-    iff_trans (last_found (half m) (AcceptsRow m rows j') (has_index c.finish.new.self.ends) (c.finish.ensures.ends j' at' c.if-finish.true) k
-    (has_index c.find_from.new.found k) (has_index c.put_lowered.new.into k) (has_index c.put_lowered-then-finish.new.into k) _ first (rw none at second) (rw past at finds k)) (runs k)
+    iff_trans (told k) (iff_trans (iff_beside (last_told (half m) (AcceptsRow m rows j') _ (c.finish.ensures.ends j' at' c.if-finish.true) k)) (iff_trans (rw past at finds k) (runs k)))
 
 pub returns-else-finish-clause-found : goal.returns-else-finish-clause-found
 returns-else-finish-clause-found c = λ k.

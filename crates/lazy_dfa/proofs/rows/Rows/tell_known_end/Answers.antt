@@ -1,16 +1,15 @@
-use Rattle.std.proofs.Common.{◌+◌, inl, inr, IsTrue, slice_index, arith, ap, ◌∙◌}
+use Rattle.std.proofs.Common.{◌+◌, inr, IsTrue, slice_index, arith, ap, ◌∙◌}
 use Rattle.std.proofs.Math.Logic.{⊎_elim}
 use Rattle.bit_sets.specs.Indexes.{has_index}
 use Rattle.byte_nfa.proofs.lemmas.Pass.{iff_trans}
 use Rattle.lazy_dfa.specs.inner.Sources.{half}
-use Rattle.lazy_dfa.proofs.lemmas.Lists.{iff_sym}
 use Rattle.lazy_dfa.specs.inner.Rows.{AcceptsRow}
-use Rattle.lazy_dfa.proofs.lemmas.Finding.{at_no_byte, iff_beside, none_last}
+use Rattle.lazy_dfa.proofs.lemmas.Finding.{iff_beside, last_told, none_last}
 use Rattle.lazy_dfa.proofs.lemmas.Rows.{read_end}
 use Rattle.lazy_dfa.proofs.rows.Rows.tell_known_end.Goals as goal
 
-pub put_found-requires-clause-list : goal.put_found-requires-clause-list
-put_found-requires-clause-list c =
+pub tell_listed-requires-clause-list : goal.tell_listed-requires-clause-list
+tell_listed-requires-clause-list c =
     let m = c.args.automaton.now in
     let rows = c.args.self.now in
     let (i, (lt, is)) = c.requires.row in
@@ -26,11 +25,8 @@ returns-then-end-ge-FIRST-clause-found c = λ i (lt, is) _ k.
     let e = c.entry_at-end.result in
     let at = c.entry_at-end.ensures ∙ ap (λ l. slice_index l (c.args.place + rows.class_count)) c.deref.ensures.value ∙ ap (λ p. slice_index rows.entries.items (p + rows.class_count)) is in
     let listed = (read_end m rows i c.requires.sound lt e at (omega arith)).listed (omega arith) in
-    let put = rw (c.deref-then-end-ge-FIRST.ensures.value, c.index_count-half.ensures) at c.put_found.ensures.has in
-    iff_trans (put k) (iff_beside (iff_trans (
-      λ (low, in'). (low, ⊎_elim (λ a. inl ((listed.has k).0 a).1) (λ a. inr ((listed.has (h + k)).0 a).1) in'),
-      λ (low, a). (low, ⊎_elim (λ a'. inl ((listed.has k).1 (omega (arith, low), a'))) (λ a'. inr ((listed.has (h + k)).1 (omega (arith, low), a'))) a),
-    ) (iff_sym (at_no_byte h (AcceptsRow m rows i) k))))
+    let put = rw (c.deref-then-end-ge-FIRST.ensures.value, c.index_count-half.ensures) at c.tell_listed.ensures.has in
+    iff_trans (put k) (iff_beside (last_told h (AcceptsRow m rows i) _ (λ j small. (λ in'. ((listed.has j).0 in').1, λ a. (listed.has j).1 (small, a))) k))
 
 pub returns-else-end-ge-FIRST-clause-found : goal.returns-else-end-ge-FIRST-clause-found
 returns-else-end-ge-FIRST-clause-found c = λ i (lt, is) _ k.

@@ -1,11 +1,13 @@
-use Rattle.std.proofs.Common.{◌+◌, inl, inr, slice_index, arith, ap, ◌∙◌}
-use Rattle.std.proofs.Math.Logic.{⊎_elim}
+use Rattle.std.proofs.Common.{◌+◌, slice_index, arith, ap, ◌∙◌}
+use Rattle.byte_nfa.proofs.lemmas.Pass.{iff_trans}
+use Rattle.lazy_dfa.proofs.lemmas.Finding.{iff_beside}
+use Rattle.lazy_dfa.proofs.lemmas.Told.{told_decided}
 use Rattle.lazy_dfa.specs.inner.Sources.{half}
 use Rattle.lazy_dfa.proofs.lemmas.Rows.{read_end}
 use Rattle.lazy_dfa.proofs.rows.Rows.tell_marks.Goals as goal
 
-pub put_marks-requires-clause-list : goal.put_marks-requires-clause-list
-put_marks-requires-clause-list c =
+pub tell_listed-requires-clause-list : goal.tell_listed-requires-clause-list
+tell_listed-requires-clause-list c =
     let m = c.args.automaton.now in
     let rows = c.args.self.now in
     let (i, (lt, is)) = c.requires.row in
@@ -21,7 +23,8 @@ returns-clause-told c = λ i (lt, is) _ k.
     let e = c.entry_at-end.result in
     let at = c.entry_at-end.ensures ∙ ap (λ l. slice_index l (c.args.place + rows.class_count)) c.deref.ensures.value ∙ ap (λ p. slice_index rows.entries.items (p + rows.class_count)) is in
     let listed = (read_end m rows i c.requires.sound lt e at (omega arith)).listed (omega arith) in
-    let put = rw (c.deref-2.ensures.value, c.index_count-half.ensures) at c.put_marks.ensures.has in (
-      λ on. ⊎_elim (λ in'. let (low, a) = (listed.has (h + k)).0 in' in inl (omega (arith, low), a)) (λ old. inr old) ((put k).0 on),
-      λ either. (put k).1 (⊎_elim (λ (low, a). inl ((listed.has (h + k)).1 (omega (arith, low), a))) (λ old. inr old) either),
-    )
+    let put = rw (c.deref-2.ensures.value, c.index_count-half.ensures) at c.tell_listed.ensures.has in
+    iff_trans (put k) (iff_beside (iff_trans (told_decided h _ k) (
+      λ (low, in'). (low, ((listed.has (h + k)).0 in').1),
+      λ (low, a). (low, (listed.has (h + k)).1 (omega (arith, low), a)),
+    )))

@@ -1,0 +1,20 @@
+use Rattle.std.proofs.Common.{◌≡◌, ℕ, ◌+◌, ◌≤◌, List, Some}
+use Rattle.std.specs.Prelude.{◌↔◌}
+use Rattle.bit_sets.specs.StateSets.{state_capacity}
+use Rattle.lazy_dfa.specs.inner.Stepping.{StepsBelow, EndsBelow}
+use Rattle.lazy_dfa.proofs.stepping.next_end.Given as goal
+
+abbrev pub invariant-loop-limit : goal.invariant-loop-limit
+invariant-loop-limit l =
+    let m = l.automaton in record {
+      within : l.limit ≤ l.fn.limit;
+      from_capacity : state_capacity l.from ≡ state_capacity l.fn.from;
+      to_capacity : state_capacity l.to ≡ state_capacity l.fn.to;
+      steps : (b : ℕ) (y : List ℕ) (k : ℕ) → l.byte ≡ Some b → StepsBelow m l.fn.from l.fn.limit l.fn.to b y k ↔ StepsBelow m l.from l.limit l.to b y k;
+      ends : (i : ℕ) → l.lowest ≤ i → EndsBelow m l.fn.from l.fn.limit i ↔ EndsBelow m l.from l.limit i;
+      visits : l.visits + l.limit ≤ l.fn.visits + l.fn.limit;
+      counted : l.fn.visits ≤ l.visits;
+    }
+
+abbrev pub decreases-loop-limit : goal.decreases-loop-limit
+decreases-loop-limit l = l.limit
