@@ -1,4 +1,4 @@
-//! The program that `plain_calls` is compared with: the same calls, input and output, over the Rust crate globset.
+//! The program that `replay --measure` is compared with: the same calls, input and output, over the Rust crate globset.
 //!
 //! `plain_baseline CALLS ROUNDS MICROSECONDS`: standard input has the globs, one in each line, an empty line, and the paths. A
 //! line before the empty one that begins with `-` is an option of all globs after it. For each call it writes a line of columns

@@ -31,7 +31,6 @@ pub struct Globs {
 }
 
 impl Drop for Globs {
-    // One call wherever a value is dropped, which keeps proofs short.
     fn drop(self) {
         let Globs {
             alloc: _,

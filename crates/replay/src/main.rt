@@ -4,20 +4,36 @@
 //! A row is a line whose columns are separated by tabs. The first is its kind, the next columns are the arguments of the call,
 //! and the last are its expected result. An empty line ends a case, and a line that begins with `#` is a comment. The
 //! command-line arguments name files of rows, and the comments at the head of each file describe its rows.
+//!
+//! With `--measure` as its first argument it [measures calls](measure).
 #![tactic(auto)]
 
 mod case;
 mod column;
 mod fault;
 mod files;
+mod measure;
 mod relations;
 mod report;
 mod row;
 
 use files::replay_files;
-use std::io;
+use measure::measure_calls;
 use std::process::ExitCode;
+use std::{env, io};
 
 fn main(rt: HostRuntime) -> io::Result<ExitCode> {
-    replay_files(&rt)
+    if has_to_measure(&rt)? {
+        Ok(measure_calls(&rt))
+    } else {
+        replay_files(&rt)
+    }
+}
+
+/// Returns whether the first argument is `--measure`.
+fn has_to_measure(rt: &HostRuntime) -> io::Result<bool> {
+    match env::args(rt)?.skip(1).next() {
+        Some(word) => Ok(word.as_str() == "--measure"),
+        None => Ok(false),
+    }
 }

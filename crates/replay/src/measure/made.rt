@@ -1,7 +1,7 @@
 //! Globs that are read, and sets that are made.
 
-use crate::input::GlobText;
-use crate::measured::{Limits, Measured};
+use crate::measure::input::GlobText;
+use crate::measure::measured::{Limits, Measured};
 use anyhow::Result;
 use globset::{Candidate, Glob, GlobSet, Searcher};
 use std::alloc::Global;

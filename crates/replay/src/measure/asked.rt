@@ -2,7 +2,7 @@
 
 ghost use Rattle.std.specs.Prelude.{◌<◌};
 
-use crate::measured::{Limits, Measured};
+use crate::measure::measured::{Limits, Measured};
 use anyhow::Result;
 use globset::{Candidate, Error, GlobMatcher, GlobSet, Searcher};
 

@@ -1,9 +1,11 @@
 //! The calls by their names.
 
-use crate::asked::{Any, Asked, Indexes, Matchers, Searching, add_piece, add_rounds, ask_all};
-use crate::input::GlobText;
-use crate::made::{AskedSets, Making, Searchers, Sets, add_making, add_reading, read};
-use crate::measured::{Limits, Measured};
+use crate::measure::asked::{
+    Any, Asked, Indexes, Matchers, Searching, add_piece, add_rounds, ask_all,
+};
+use crate::measure::input::GlobText;
+use crate::measure::made::{AskedSets, Making, Searchers, Sets, add_making, add_reading, read};
+use crate::measure::measured::{Limits, Measured};
 use anyhow::{Result, anyhow};
 use globset::{GlobSet, Searcher};
 
