@@ -1,7 +1,10 @@
 -- The rules of an ignore file, and which of them decides about a path below the file's folder. Git compares without regard
 -- to case where its setting `core.ignoreCase` is set: `ignore_case` is that setting.
-use Rattle.std.specs.Prelude.{ℕ, suc, Bool, not, ◌&&◌, ◌||◌, List, [], ◌∷◌, Option, Some, None, if◌then◌else◌}
-use Rattle.ignore_pattern.specs.Lines.{file_lines}
+use Rattle.std.specs.Prelude.{ℕ, zero, suc, Bool, not, ◌==◌, ◌&&◌, ◌||◌, List, [], ◌∷◌, Option, Some, None, is_none, if◌then◌else◌, slice_get}
+use Rattle.std.specs.List.{list_all}
+use Rattle.std.specs.Option.{option_map}
+use Rattle.ignore_pattern.specs.Ends.{begins_with, without_first}
+use Rattle.ignore_pattern.specs.Lines.{file_lines, line_text}
 use Rattle.ignore_pattern.specs.Patterns.{Pattern, pattern_of_line, pattern_matches}
 use Rattle.git_ignore.specs.declared.decision.Decision.{Decision}
 use Rattle.git_ignore.specs.declared.decision.Decision.TheVariants.{Ignored, Kept, Undecided}
@@ -20,6 +23,32 @@ rules_from n (line ∷ lines) = elim (pattern_of_line line) [ None ↦ rules_fro
 -- the rules of an ignore file, given by its bytes
 unfoldable pub rules_of : List ℕ → List Rule
 rules_of file = rules_from 1 (file_lines file)
+
+-- The text of a line has no pattern to read: it is a comment, or has nothing but slashes after its `!`, if one is there.
+abbrev pub lacks_pattern : List ℕ → Bool
+lacks_pattern text = begins_with 35 text || list_all (λ c. c == 47) (without_first 33 text)
+
+-- git cannot read the line: it has no pattern, although its text has one to read
+abbrev pub is_unread : List ℕ → Bool
+is_unread line = is_none (pattern_of_line line) && not (lacks_pattern (line_text line))
+
+-- the numbers of the lines that git cannot read, of these lines from this number on
+abbrev pub unread_from : ℕ → List (List ℕ) → List ℕ
+unread_from n [] = []
+unread_from n (line ∷ lines) = if is_unread line then n ∷ unread_from (suc n) lines else unread_from (suc n) lines
+
+-- the numbers of the lines that git cannot read, of an ignore file, given by its bytes
+unfoldable pub unread_lines_of : List ℕ → List ℕ
+unread_lines_of file = unread_from 1 (file_lines file)
+
+-- the line with this number, counted from 1, if there is one
+abbrev pub line_at : List (List ℕ) → ℕ → Option (List ℕ)
+line_at lines zero = None
+line_at lines (suc k) = slice_get lines k
+
+-- the text of the line with this number, of an ignore file, given by its bytes
+unfoldable pub line_text_at : List ℕ → ℕ → Option (List ℕ)
+line_text_at file number = option_map line_text (line_at (file_lines file) number)
 
 -- The rule applies to the path, of a folder or of something else: it matches the path, which has to be a folder if the rule is
 -- for folders alone.

@@ -1,3 +1,4 @@
 pub mod Entries
 pub mod Stacks
 pub mod StackParts
+pub mod PathRules

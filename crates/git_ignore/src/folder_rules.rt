@@ -1,11 +1,15 @@
 //! The rules of an ignore file among several.
 
+ghost use Rattle.std.specs.Option.{option_copied};
 ghost use Rattle.std.specs.Prelude.{◌≡◌, IfOk};
 ghost use Rattle.git_ignore.specs.Folders.{file_rule, files_rule};
+ghost use Rattle.git_ignore.specs.Rules.{line_text_at, unread_lines_of};
 ghost use Rattle.git_ignore.specs.RulesValue.{FitsAsBefore, FitsRules};
+ghost use Rattle.git_ignore.specs.inner.PathRules.{IsPathRule};
 ghost use Rattle.git_ignore.specs.inner.Stacks.{FitAll, file_of, files_of};
 
 use crate::decision::DecidingRule;
+use crate::path_rule::PathRule;
 use crate::rules::Rules;
 use crate::scratch::IgnoreScratch;
 use crate::two_rules::DecidesAlone;
@@ -43,8 +47,17 @@ impl FolderRules {
     }
 
     /// Returns the numbers of the lines that git cannot read.
-    pub fn unread_lines(&self) -> &[usize] {
+    pub fn unread_lines(&self) -> &[usize]
+        ensures { result.now ≡ unread_lines_of (file_of self.now).bytes }
+    {
         self.rules.unread_lines()
+    }
+
+    /// Returns the text of the line with this number, if there is one.
+    pub fn line_text(&self, number: usize) -> Option<&[u8]>
+        ensures { option_copied result ≡ line_text_at (file_of self.now).bytes number }
+    {
+        self.rules.line_text(number)
     }
 
     /// Returns the rule of the file that decides about a path alone. The file has this index, and the path begins in the top folder.
@@ -62,6 +75,25 @@ impl FolderRules {
         match path.strip_prefix(self.folder.as_slice()) {
             Some(below) => self.rules.rule_in(index, below, is_folder, scratch),
             None => None,
+        }
+    }
+
+    /// Returns that rule, and what the file's rules tell of the folders above the path.
+    fn path_rule(
+        &self,
+        index: usize,
+        path: &[u8],
+        is_folder: bool,
+        scratch: &mut IgnoreScratch,
+    ) -> PathRule
+        requires { FitsRules scratch.old self.now.rules }
+        ensures rule { IsPathRule (λ path is_folder. file_rule index path is_folder (file_of self.now))
+            path.now is_folder result }
+        ensures scratch { scratch.new ≡ scratch.old }
+    {
+        match path.strip_prefix(self.folder.as_slice()) {
+            Some(below) => self.rules.path_rule_in(index, below, is_folder, scratch),
+            None => PathRule::none(),
         }
     }
 }
@@ -88,6 +120,24 @@ fn rule_alone(
     None
 }
 
+/// Returns that rule, and what is known of the folders above the path. It takes a pass over the path for each file.
+fn path_rule(
+    files: &[FolderRules],
+    path: &[u8],
+    is_folder: bool,
+    scratch: &mut IgnoreScratch,
+) -> PathRule
+    requires { FitAll scratch.old files.now }
+    ensures rule { IsPathRule (files_rule (files_of files.now)) path.now is_folder result }
+    ensures scratch { scratch.new ≡ scratch.old }
+{
+    let mut told = PathRule::none();
+    for (index, file) in files.iter().enumerate() {
+        told = told.joined(file.path_rule(index, path, is_folder, scratch));
+    }
+    told
+}
+
 impl DecidesAlone for Vec<FolderRules> {
     ghost use Rattle.git_ignore.specs.Folders.{files_rule};
     ghost use Rattle.git_ignore.specs.inner.Stacks.{FitAll, files_of};
@@ -103,5 +153,9 @@ impl DecidesAlone for Vec<FolderRules> {
         scratch: &mut IgnoreScratch,
     ) -> Option<DecidingRule> {
         rule_alone(self, path, is_folder, scratch)
+    }
+
+    fn path_rule(&self, path: &[u8], is_folder: bool, scratch: &mut IgnoreScratch) -> PathRule {
+        path_rule(self, path, is_folder, scratch)
     }
 }

@@ -70,6 +70,7 @@ mod builder;
 mod decision;
 mod entry;
 mod folder_rules;
+mod path_rule;
 mod reading;
 mod rules;
 mod scratch;

@@ -1,13 +1,15 @@
 //! Rules as they are read, line by line.
 
-ghost use Rattle.std.specs.Prelude.{◌≡◌, ◌++◌, ◌∷◌, [], OnOk};
-ghost use Rattle.ignore_pattern.specs.Lines.{lines_of, without_byte_order_mark};
+ghost use Rattle.std.specs.Prelude.{◌≡◌, ◌==◌, ◌++◌, ◌∷◌, [], OnOk, not};
+ghost use Rattle.std.specs.List.{list_all};
+ghost use Rattle.std.specs.Option.{option_copied};
+ghost use Rattle.ignore_pattern.specs.Lines.{line_text, lines_of, without_byte_order_mark};
 ghost use Rattle.ignore_pattern.specs.Patterns.{pattern_of_line};
-ghost use Rattle.git_ignore.specs.Rules.{rules_from};
-ghost use Rattle.git_ignore.specs.inner.Entries.{AddsRules, ArePartsOf, entry_of, rule_at};
+ghost use Rattle.git_ignore.specs.Rules.{is_unread, lacks_pattern, line_at, rules_from, unread_from};
+ghost use Rattle.git_ignore.specs.inner.Entries.{AddsRules, ArePartsOf, entry_of, rule_at, unread_at};
 
 use crate::entry::RuleEntry;
-use ignore_pattern::{IgnorePattern, pattern_of_line};
+use ignore_pattern::{IgnorePattern, line_text, pattern_of_line};
 use memchr::memchr;
 use std::alloc::{AllocError, Global};
 
@@ -19,14 +21,15 @@ const BYTE_ORDER_MARK: &[u8] = b"\xef\xbb\xbf";
 pub struct FileRules {
     pub patterns: Vec<IgnorePattern>,
     pub entries: Vec<RuleEntry>,
-    /// The numbers of lines with a pattern that cannot be read.
+    /// The numbers of the lines that git cannot read.
     pub unread: Vec<usize>,
 }
 
 impl FileRules {
     /// Returns no rules. It allocates nothing.
     pub fn new(alloc: Global) -> FileRules
-        ensures { ArePartsOf [] result.patterns.items result.entries.items }
+        ensures rules { ArePartsOf [] result.patterns.items result.entries.items }
+        ensures unread { result.unread.items ≡ [] }
     {
         FileRules {
             patterns: Vec::new(alloc),
@@ -35,12 +38,14 @@ impl FileRules {
         }
     }
 
-    /// Adds the rules of some lines. The first line has the number 1.
+    /// Adds the rules of some lines, and the numbers of those that git cannot read. The first line has the number 1.
     pub fn push_lines(&mut self, alloc: Global, bytes: &[u8]) -> Result<(), AllocError>
         requires { ArePartsOf [] self.old.patterns.items self.old.entries.items }
-        ensures { OnOk result
+        ensures rules { OnOk result
             (ArePartsOf (rules_from 1 (lines_of bytes.now)) self.new.patterns.items
             self.new.entries.items) }
+        ensures unread { OnOk result
+            (self.new.unread.items ≡ self.old.unread.items ++ unread_from 1 (lines_of bytes.now)) }
     {
         let mut rest = bytes;
         let mut number = 1;
@@ -52,11 +57,14 @@ impl FileRules {
         self.push_line(alloc, number, rest)
     }
 
-    /// Adds the rule of a line, if there is any.
+    /// Adds the rule of a line, if there is any, or else the line's number, if git cannot read it.
     fn push_line(&mut self, alloc: Global, number: usize, line: &[u8]) -> Result<(), AllocError>
-        ensures { OnOk result
+        ensures rules { OnOk result
             (AddsRules (rule_at number (pattern_of_line line.now)) self.old.patterns.items
             self.old.entries.items self.new.patterns.items self.new.entries.items) }
+        ensures unread { OnOk result
+            (self.new.unread.items
+            ≡ self.old.unread.items ++ unread_at number (is_unread line.now)) }
     {
         match pattern_of_line(alloc, line)? {
             Some(pattern) => self.push_rule(number, pattern),
@@ -72,21 +80,24 @@ impl FileRules {
             (self.new.entries.items
             ≡ self.old.entries.items
             ++ entry_of (record { line = line; pattern = pattern }) ∷ []) }
+        ensures unread { self.new.unread.items ≡ self.old.unread.items }
     {
         self.entries.push(RuleEntry::new(line, &pattern))?;
         self.patterns.push(pattern)?;
         Ok(())
     }
 
-    /// Keeps the number of a line whose pattern cannot be read, if there is one to read.
+    /// Adds the number of a line from which no pattern is read, if its text has one.
     fn push_unread(&mut self, number: usize, line: &[u8]) -> Result<(), AllocError>
         ensures patterns { self.new.patterns.items ≡ self.old.patterns.items }
         ensures entries { self.new.entries.items ≡ self.old.entries.items }
+        ensures unread { OnOk result
+            (self.new.unread.items
+            ≡ self.old.unread.items ++ unread_at number (not (lacks_pattern (line_text line.now)))) }
     {
-        if is_plain_line(line) {
-            return Ok(());
+        if !lacks_pattern(line_text(line)) {
+            self.unread.push(number)?;
         }
-        self.unread.push(number)?;
         Ok(())
     }
 }
@@ -101,13 +112,37 @@ pub fn after_mark(bytes: &[u8]) -> &[u8]
     }
 }
 
-/// Returns whether a line has no pattern to read: it is a comment, or there are at most a `!` and slashes before its NUL.
-fn is_plain_line(line: &[u8]) -> bool {
-    let text = line.strip_suffix(b"\r").unwrap_or(line);
-    let end = memchr(b'\0', text).unwrap_or(text.len());
-    let text = text.get(..end).unwrap_or(text);
-    let rest = text.strip_prefix(b"!").unwrap_or(text);
-    let rest = rest.strip_prefix(b"/").unwrap_or(rest);
-    let rest = rest.strip_prefix(b"/").unwrap_or(rest);
-    text.starts_with(b"#") || rest.iter().all(|byte| *byte == b' ')
+/// Returns the line with this number, counted from 1, if there is one.
+pub fn line_at(bytes: &[u8], number: usize) -> Option<&[u8]>
+    ensures { option_copied result ≡ line_at (lines_of bytes.now) number }
+{
+    let mut left = number.checked_sub(1)?;
+    let mut rest = bytes;
+    while left > 0 {
+        rest = &rest[memchr(b'\n', rest)? + 1..];
+        left -= 1;
+    }
+    match memchr(b'\n', rest) {
+        Some(end) => Some(&rest[..end]),
+        None => Some(rest),
+    }
+}
+
+/// Returns whether the text of a line has no pattern to read: it is a comment, or has nothing but slashes after its `!`, if one is
+/// there.
+fn lacks_pattern(text: &[u8]) -> bool
+    ensures { result ≡ lacks_pattern text.now }
+{
+    match text {
+        [b'#', ..] => true,
+        [b'!', after @ ..] => has_slashes_alone(after),
+        _ => has_slashes_alone(text),
+    }
+}
+
+/// Returns whether all bytes are slashes.
+fn has_slashes_alone(bytes: &[u8]) -> bool
+    ensures { result ≡ list_all (λ c. c == 47) bytes.now }
+{
+    bytes.iter().all(|byte| *byte == b'/')
 }

@@ -1,14 +1,17 @@
 //! The rules of an ignore file.
 
 ghost use Rattle.std.specs.Arc.{arc_value};
+ghost use Rattle.std.specs.Option.{option_copied};
 ghost use Rattle.std.specs.Prelude.{◌≡◌, false, IfOk};
-ghost use Rattle.git_ignore.specs.Rules.{deciding_rule, decision_of};
+ghost use Rattle.git_ignore.specs.Rules.{deciding_rule, decision_of, line_text_at, unread_lines_of};
 ghost use Rattle.git_ignore.specs.RulesValue.{FitsRules, rules_rule};
 ghost use Rattle.git_ignore.specs.TwoRules.{deciding};
 ghost use Rattle.git_ignore.specs.declared.decision.DecideBy.TheVariants.{Git, Nearest};
 ghost use Rattle.git_ignore.specs.inner.Entries.{rules_value};
+ghost use Rattle.git_ignore.specs.inner.PathRules.{IsPathRule};
 
 use crate::decision::{DecideBy, DecidingRule, Decision, decision_of};
+use crate::path_rule::PathRule;
 use crate::reading::{FileRules, after_mark};
 use crate::scratch::IgnoreScratch;
 use crate::stored::StoredRules;
@@ -42,6 +45,11 @@ impl Model for Rules {
     ghost use Rattle.git_ignore.specs.inner.Entries.{rules_value};
 
     ghost view = { λ r. rules_value (arc_value r.stored) };
+
+    ghost use Rattle.std.specs.Prelude.{◌≡◌};
+    ghost use Rattle.git_ignore.specs.Rules.{unread_lines_of};
+
+    ghost invariant = { λ r. r.unread.items ≡ unread_lines_of (arc_value r.stored).file };
 }
 
 impl Rules {
@@ -88,8 +96,9 @@ impl Rules {
 
     /// Returns the decision of the file about a path by git's rule ([`DecideBy::Git`]).
     ///
-    /// It takes a pass over the path of each folder above the path, from the top down to the first that is ignored, and then a
-    /// pass over the path. So the time grows with the square of their number.
+    /// It takes a pass over the path. Only if a rule that is not negated matches a folder above the path, it takes a pass over the
+    /// path of each such folder, too, from the top down to the first that is ignored. So if a rule keeps what another ignores, the
+    /// time can grow with the square of their number.
     pub fn decide_below(
         &self,
         path: &[u8],
@@ -106,8 +115,9 @@ impl Rules {
 
     /// Returns the nearest decision of the file about a path ([`DecideBy::Nearest`]).
     ///
-    /// It takes a pass over the path, and then over the path of each folder above it, from the nearest up to the first with a
-    /// decision. So the time grows with the square of their number.
+    /// It takes a pass over the path. Only if no rule decides about the path, and some rule matches a folder above it, it takes a
+    /// pass over the path of each such folder, too, from the nearest up to the first with a decision. So the time can grow with the
+    /// square of their number.
     ///
     /// ```rust
     /// use git_ignore::{Decision, IgnoreScratch, Rules};
@@ -182,8 +192,29 @@ impl Rules {
     /// let rules = Rules::new(alloc, b"a\\\n/\n!\n \n#[\n[a\n[[:x:]]\n\0[\n!/\n")?;
     /// assert_eq!(rt; rules.unread_lines(), [1, 6, 7].as_slice());
     /// ```
-    pub fn unread_lines(&self) -> &[usize] {
+    pub fn unread_lines(&self) -> &[usize]
+        ensures { result.now ≡ unread_lines_of self.now.file }
+    {
         &self.unread
+    }
+
+    /// Returns the text of the line with this number, counted from 1, or `None` if the file has no such line. The text is the line
+    /// without a carriage return at its end, up to its first NUL, and without the spaces at its end. Of the line of a
+    /// [`DecidingRule`], it is what `git check-ignore -v` prints.
+    ///
+    /// It takes a pass over the file up to the end of this line.
+    ///
+    /// ```rust
+    /// use git_ignore::Rules;
+    ///
+    /// let rules = Rules::new(alloc, b"# What a build makes\n*.o  \r\n")?;
+    /// assert_eq!(rt; rules.line_text(2), Some(b"*.o".as_slice()));
+    /// assert_eq!(rt; rules.line_text(4), None);
+    /// ```
+    pub fn line_text(&self, number: usize) -> Option<&[u8]>
+        ensures { option_copied result ≡ line_text_at self.now.file number }
+    {
+        self.stored.line_text(number)
     }
 
     /// Returns the rule that decides about a path alone, if these are the rules of the file with this index.
@@ -201,6 +232,23 @@ impl Rules {
     {
         self.stored
             .deciding_rule(file, path, is_folder, scratch, &mut None)
+    }
+
+    /// Returns that rule, and what is known of the folders above the path.
+    pub(crate) fn path_rule_in(
+        &self,
+        file: usize,
+        path: &[u8],
+        is_folder: bool,
+        scratch: &mut IgnoreScratch,
+    ) -> PathRule
+        requires { FitsRules scratch.old self.now }
+        ensures rule { IsPathRule (deciding_rule self.now.ignore_case self.now.file file) path.now
+            is_folder result }
+        ensures scratch { scratch.new ≡ scratch.old }
+    {
+        self.stored
+            .path_rule(file, path, is_folder, scratch, &mut None)
     }
 
     /// Returns the number of states of the automaton.
@@ -244,5 +292,9 @@ impl DecidesAlone for Rules {
         scratch: &mut IgnoreScratch,
     ) -> Option<DecidingRule> {
         self.rule_in(0, path, is_folder, scratch)
+    }
+
+    fn path_rule(&self, path: &[u8], is_folder: bool, scratch: &mut IgnoreScratch) -> PathRule {
+        self.path_rule_in(0, path, is_folder, scratch)
     }
 }

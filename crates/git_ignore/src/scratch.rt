@@ -9,8 +9,8 @@ use lazy_dfa::StateSets;
 use std::alloc::{AllocError, Global};
 use std::marker::Model;
 
-/// All the memory that rules need to decide about a path: two bits for each state of their automaton, and a bit for each rule. The
-/// automaton has about as many states as the patterns of the file have characters.
+/// All the memory that rules need to decide about a path: two bits for each state of their automaton, and a bit for each rule and two
+/// more. The automaton has about as many states as the patterns of the file have characters.
 ///
 /// With a scratch that fits the rules, [`Rules::decide`] cannot fail. What earlier calls left in it has no effect. It serves all
 /// rules that it fits ([`IgnoreScratch::fits`]), and [`IgnoreScratch::fit`] makes it fit more rules.
@@ -22,12 +22,12 @@ pub struct IgnoreScratch {
     rules: usize,
     /// The states that the automaton is in, where it is stepped.
     pub(crate) sets: StateSets,
-    /// The indexes of the rules whose patterns match.
+    /// The indexes of the rules whose patterns match, and the two that tell of the folders above a path.
     pub(crate) found: IndexSet,
 }
 
 impl Model for IgnoreScratch {
-    ghost use Rattle.std.specs.Prelude.{◌≤◌};
+    ghost use Rattle.std.specs.Prelude.{◌≤◌, ◌+◌};
     ghost use Rattle.bit_sets.specs.Indexes.{index_capacity};
     ghost use Rattle.lazy_dfa.specs.Sets.{sets_capacity};
     ghost use Rattle.git_ignore.specs.RulesValue.{ScratchValue};
@@ -39,7 +39,7 @@ impl Model for IgnoreScratch {
       rules = s.rules;
     } };
 
-    ghost invariant = { λ s. (s.states ≤ sets_capacity s.sets) × (s.rules ≤ index_capacity s.found) };
+    ghost invariant = { λ s. (s.states ≤ sets_capacity s.sets) × (s.rules + 2 ≤ index_capacity s.found) };
 }
 
 impl IgnoreScratch {
@@ -94,7 +94,12 @@ impl IgnoreScratch {
         let states = self.states.max(rules.state_count());
         let count = self.rules.max(rules.rule_count());
         self.sets.reserve(states)?;
-        self.found.reserve(count)?;
+        if count > self.rules {
+            let Some(indexes) = count.checked_add(2) else {
+                return Err(AllocError);
+            };
+            self.found.reserve(indexes)?;
+        }
         // What fitted before takes no memory, for rows either.
         if states > self.states || count > self.rules {
             rules.keep_cache();

@@ -1,7 +1,8 @@
 //! Ignore files of nested folders.
 
-ghost use Rattle.std.specs.Prelude.{◌≡◌, ◌≤◌, ◌<◌, ◌++◌, ◌∷◌, [], true, false, IfOk, MatchOption, OnOk, OnErr, is_some, length, take};
-ghost use Rattle.git_ignore.specs.Rules.{decision_of};
+ghost use Rattle.std.specs.Prelude.{◌≡◌, ◌≤◌, ◌<◌, ◌++◌, ◌∷◌, [], true, false, IfOk, MatchOption, OnOk, OnErr, is_some, length, slice_get, take};
+ghost use Rattle.std.specs.Option.{option_and_then, option_copied, option_map};
+ghost use Rattle.git_ignore.specs.Rules.{decision_of, line_text_at, unread_lines_of};
 ghost use Rattle.git_ignore.specs.Folders.{files_rule};
 ghost use Rattle.git_ignore.specs.StackValue.{at_top, entered, left, stack_files, stack_rule, with_file};
 ghost use Rattle.git_ignore.specs.TwoRules.{ignored_above, ignoring};
@@ -37,7 +38,8 @@ pub struct FolderLevel {
 ///
 /// [`IgnoreStack::enter`] stores whether git's rule ignores the folder. So by this rule the name of an entry costs a pass over its
 /// path for each ignore file above it. A path through folders that were not entered also costs such passes for each of these
-/// folders, down to the first that is ignored. The time grows with the square of their number.
+/// folders, down to the first that is ignored, but only if a rule that is not negated matches a folder above the path. Then the time
+/// can grow with the square of their number.
 ///
 /// All files share an [`IgnoreScratch`]. The rules of each keep rows between calls.
 ///
@@ -71,7 +73,6 @@ impl Model for IgnoreStack {
 }
 
 impl Drop for IgnoreStack {
-    // One call wherever a value is dropped, which keeps proofs short.
     fn drop(self) {
         let IgnoreStack {
             alloc: _,
@@ -186,8 +187,9 @@ impl IgnoreStack {
     /// path or a folder above it is the decision of the deepest file with a rule that applies; the ignore files of folders that are
     /// ignored count.
     ///
-    /// The call allocates as [`IgnoreStack::decide`] does. It takes a pass over the path for each ignore file above it, and then
-    /// such passes for the folders above it, from the nearest up to the first with a decision.
+    /// The call allocates as [`IgnoreStack::decide`] does. It takes a pass over the path for each ignore file above it. Only if no
+    /// rule decides about the path, and some rule matches a folder above it, it takes such passes for these folders, too, from the
+    /// nearest up to the first with a decision.
     pub fn decide_nearest(&mut self, path: &[u8], is_folder: bool) -> Result<Decision, AllocError>
         ensures decision { IfOk result
             (λ d. d ≡ decision_of (stack_rule self.old Nearest path.now is_folder)) }
@@ -248,11 +250,35 @@ impl IgnoreStack {
     /// Returns the numbers, counted from 1, of the lines of a file that git cannot read, as [`crate::Rules::unread_lines`] does; or
     /// `None` if there is no file with this index. The indexes are those of [`DecidingRule::file`].
     pub fn unread_lines(&self, file: usize) -> Option<&[usize]>
-        ensures { MatchOption result (length (stack_files self.now) ≤ file)
+        ensures there { MatchOption result (length (stack_files self.now) ≤ file)
             (λ lines. file < length (stack_files self.now)) }
+        ensures lines { option_copied result
+            ≡ option_map (λ f. unread_lines_of f.bytes) (slice_get (stack_files self.now) file) }
     {
         match self.files.get(file) {
             Some(rules) => Some(rules.unread_lines()),
+            None => None,
+        }
+    }
+
+    /// Returns the text of a line of a file, as [`crate::Rules::line_text`] does, or `None` if there is no file with this index or it
+    /// has no such line. The indexes are those of [`DecidingRule::file`].
+    ///
+    /// ```rust
+    /// use git_ignore::IgnoreStack;
+    ///
+    /// let mut stack = IgnoreStack::new(alloc);
+    /// stack.add_file(b"*.tmp\n")?;
+    /// stack.add_file(b"\n!a.tmp \n")?;
+    /// assert_eq!(rt; stack.line_text(1, 2), Some(b"!a.tmp".as_slice()));
+    /// assert_eq!(rt; stack.line_text(2, 1), None);
+    /// ```
+    pub fn line_text(&self, file: usize, number: usize) -> Option<&[u8]>
+        ensures { option_copied result
+            ≡ option_and_then (λ f. line_text_at f.bytes number) (slice_get (stack_files self.now) file) }
+    {
+        match self.files.get(file) {
+            Some(rules) => rules.line_text(number),
             None => None,
         }
     }

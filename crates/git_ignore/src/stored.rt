@@ -1,16 +1,20 @@
 //! The part of rules that their searchers share.
 
 ghost use Rattle.std.specs.Prelude.{◌≡◌, IfOk, IfSome};
-ghost use Rattle.git_ignore.specs.Rules.{deciding_rule, rules_of};
+ghost use Rattle.std.specs.Option.{option_copied};
+ghost use Rattle.git_ignore.specs.Rules.{deciding_rule, line_text_at, rules_of};
 ghost use Rattle.git_ignore.specs.RulesValue.{FitsRules};
 ghost use Rattle.git_ignore.specs.inner.Entries.{ArePartsOf, rules_value};
+ghost use Rattle.git_ignore.specs.inner.PathRules.{IsPathRule};
 
 use crate::decision::DecidingRule;
 use crate::entry::{RuleEntry, last_entry_for, told_of};
+use crate::path_rule::PathRule;
+use crate::reading::{after_mark, line_at};
 use crate::scratch::IgnoreScratch;
 use bit_sets::Visits;
 use glob_matching::{Compiled, DEFAULT_DFA_SIZE_LIMIT};
-use ignore_pattern::{IgnorePattern, automaton_of};
+use ignore_pattern::{IgnorePattern, automaton_of, line_text};
 use lazy_dfa::Cache;
 use std::alloc::{AllocError, Global};
 use std::marker::Model;
@@ -18,7 +22,8 @@ use std::marker::Model;
 /// The rules of an ignore file. A searcher of the rules has them, too, and memory of its own.
 #[derive(Drop)]
 pub struct StoredRules {
-    /// The automaton of the rules' patterns. The pattern of a rule has the index of its entry.
+    /// The automaton of the rules' patterns. The pattern of a rule has the index of its entry, and the two indexes after these tell
+    /// of the folders above a path.
     automaton: Compiled,
     entries: Vec<RuleEntry>,
     file: Vec<u8>,
@@ -72,6 +77,16 @@ impl StoredRules {
         *self.file.allocator()
     }
 
+    /// Returns the text of the line with this number, if there is one.
+    pub fn line_text(&self, number: usize) -> Option<&[u8]>
+        ensures { option_copied result ≡ line_text_at self.now.file number }
+    {
+        match line_at(after_mark(&self.file), number) {
+            Some(line) => Some(line_text(line)),
+            None => None,
+        }
+    }
+
     /// Returns the number of states of the automaton.
     pub fn state_count(&self) -> usize
         ensures { result ≡ (rules_value self.now).states }
@@ -98,8 +113,43 @@ impl StoredRules {
         self.automaton.keep_cache();
     }
 
-    /// Returns the rule that decides about a path alone, if these are the rules of the file with this index. It reads the rows of the
-    /// cache, or without one the rows that are kept between calls.
+    /// Returns the rule that decides about a path alone, and what is known of the folders above it, if these are the rules of the file
+    /// with this index. It reads the rows of the cache, or without one the rows that are kept between calls.
+    pub fn path_rule(
+        &self,
+        file: usize,
+        path: &[u8],
+        is_folder: bool,
+        scratch: &mut IgnoreScratch,
+        cache: &mut Option<Cache>,
+    ) -> PathRule
+        requires fits { FitsRules scratch.old (rules_value self.now) }
+        requires cache { IfSome cache.old (λ c. c ≡ self.now.automaton) }
+        ensures rule { IsPathRule (deciding_rule self.now.ignore_case self.now.file file) path.now
+            is_folder result }
+        ensures scratch { scratch.new ≡ scratch.old }
+        ensures cache { cache.new ≡ cache.old }
+    {
+        scratch.found.clear();
+        self.automaton
+            .find(
+                path,
+                &mut scratch.sets,
+                cache,
+                &mut scratch.found,
+                &mut Visits::new(),
+            )
+            .unwrap();
+        let last = last_entry_for(&self.entries, &scratch.found, is_folder);
+        let count = self.entries.len();
+        PathRule {
+            rule: told_of(file, last),
+            may_be_ignored: scratch.found.has(count),
+            may_be_kept: scratch.found.has(count + 1),
+        }
+    }
+
+    /// Returns the rule that decides about a path alone, as [`StoredRules::path_rule`] does.
     pub fn deciding_rule(
         &self,
         file: usize,
@@ -115,17 +165,6 @@ impl StoredRules {
         ensures scratch { scratch.new ≡ scratch.old }
         ensures cache { cache.new ≡ cache.old }
     {
-        scratch.found.clear();
-        self.automaton
-            .find(
-                path,
-                &mut scratch.sets,
-                cache,
-                &mut scratch.found,
-                &mut Visits::new(),
-            )
-            .unwrap();
-        let last = last_entry_for(&self.entries, &scratch.found, is_folder);
-        told_of(file, last)
+        self.path_rule(file, path, is_folder, scratch, cache).rule
     }
 }

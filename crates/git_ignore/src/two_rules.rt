@@ -5,12 +5,14 @@ ghost use Rattle.git_ignore.specs.TwoRules.{deciding, ignored_above};
 ghost use Rattle.git_ignore.specs.declared.decision.DecideBy.TheVariants.{Git, Nearest};
 
 use crate::decision::{DecideBy, DecidingRule, ignoring};
+use crate::path_rule::PathRule;
 use crate::scratch::IgnoreScratch;
 
 /// Rules that decide about a path alone: those of a file, or of several files.
 pub trait DecidesAlone {
     ghost use Rattle.git_ignore.specs.RulesValue.{ScratchValue};
     ghost use Rattle.git_ignore.specs.declared.decision.DecidingRule.{DecidingRule as RuleValue};
+    ghost use Rattle.git_ignore.specs.inner.PathRules.{IsPathRule};
 
     ghost fits: { ScratchValue → Self → Type 0 };
 
@@ -25,6 +27,12 @@ pub trait DecidesAlone {
     ) -> Option<DecidingRule>
         requires { fits scratch.old self.now }
         ensures rule { result ≡ alone self.now path.now is_folder }
+        ensures scratch { scratch.new ≡ scratch.old };
+
+    /// Returns that rule, and what is known of the folders above the path.
+    fn path_rule(&self, path: &[u8], is_folder: bool, scratch: &mut IgnoreScratch) -> PathRule
+        requires { fits scratch.old self.now }
+        ensures rule { IsPathRule (alone self.now) path.now is_folder result }
         ensures scratch { scratch.new ≡ scratch.old };
 }
 
@@ -64,13 +72,17 @@ fn deciding_by_git<R: DecidesAlone>(
     ensures rule { result ≡ deciding Git (R.alone rules.now) path.now is_folder }
     ensures scratch { scratch.new ≡ scratch.old }
 {
+    let told = rules.path_rule(path, is_folder, scratch);
+    if !told.may_be_ignored {
+        return told.rule;
+    }
     for end in start..path.len() {
         let rule = ignoring(folder_rule(rules, path, end, scratch));
         if rule.is_some() {
             return rule;
         }
     }
-    rules.rule_alone(path, is_folder, scratch)
+    told.rule
 }
 
 /// Returns the rule of the nearest decision.
@@ -84,9 +96,12 @@ fn nearest<R: DecidesAlone>(
     ensures rule { result ≡ deciding Nearest (R.alone rules.now) path.now is_folder }
     ensures scratch { scratch.new ≡ scratch.old }
 {
-    let rule = rules.rule_alone(path, is_folder, scratch);
-    if rule.is_some() {
-        return rule;
+    let told = rules.path_rule(path, is_folder, scratch);
+    if told.rule.is_some() {
+        return told.rule;
+    }
+    if !told.may_be_decided() {
+        return None;
     }
     for end in (0..path.len()).rev() {
         let rule = folder_rule(rules, path, end, scratch);

@@ -1,7 +1,9 @@
 pub mod Automata
+pub mod Below
 pub mod Booleans
 pub mod Building
 pub mod Classes
+pub mod Compared
 pub mod Cuts
 pub mod Ends
 pub mod Inside

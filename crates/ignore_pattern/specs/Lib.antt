@@ -4,4 +4,5 @@ pub mod Classes
 pub mod Elements
 pub mod Patterns
 pub mod Automata
+pub mod Compared
 pub mod inner

@@ -1,8 +1,9 @@
 //! Lines of ignore files: what git reads them as, and an automaton of their patterns.
 //!
 //! [`pattern_of_line`] returns the pattern of a line, or nothing if the line matches nothing. A line is bytes, without its line
-//! feed. Of a whole file the caller takes a byte order mark away, and cuts the lines. [`automaton_of`] makes an automaton of
-//! patterns, which leads a path to the indexes of the patterns that match it.
+//! feed. Of a whole file the caller takes a byte order mark away, and cuts the lines. [`line_text`] returns the part of a line that
+//! its pattern is read from. [`automaton_of`] makes an automaton of patterns, which leads a path to the indexes of the patterns that
+//! match it.
 //!
 //! ```
 //! let mut patterns = Vec::new(alloc);
@@ -56,6 +57,7 @@
 
 mod automaton;
 mod class;
+mod compared;
 mod element;
 mod ends;
 mod item;
@@ -66,4 +68,6 @@ mod reading;
 mod states;
 
 pub use automaton::automaton_of;
+pub use compared::{add_pattern, new_builder};
+pub use line::line_text;
 pub use pattern::{IgnorePattern, pattern_of_line};

@@ -8,6 +8,12 @@ use crate::ends::without_last;
 
 /// Returns the text of a line: the line without a carriage return at its end, up to its first NUL, and without the spaces
 /// at its end. A space after a `\` that escapes it stays.
+///
+/// It takes a pass over the line.
+///
+/// ```
+/// assert_eq!(rt; line_text(b"!a\\  \r"), b"!a\\ ".as_slice());
+/// ```
 #[tactic(auto, unfolding(crate::specs::Lines::line_text))]
 pub fn line_text(line: &[u8]) -> &[u8]
     ensures { result.now ≡ line_text line.now }

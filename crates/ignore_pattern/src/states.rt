@@ -4,7 +4,7 @@ ghost use Rattle.std.specs.Prelude.{◌≡◌, ◌<◌, ◌==◌, IfOk, false};
 ghost use Rattle.byte_nfa.specs.Runs.{size};
 ghost use Rattle.ignore_pattern.specs.Classes.{compared, class_matches};
 ghost use Rattle.ignore_pattern.specs.Elements.{Folders, is_inner, element_matches, elements_match};
-ghost use Rattle.ignore_pattern.specs.inner.States.{IsSetOf, Grows, Builds};
+ghost use Rattle.ignore_pattern.specs.inner.States.{IsSetOf, Grows, Builds, BuildsBelow};
 ghost use Rattle.ignore_pattern.specs.inner.Views.{element_of, elements_of};
 
 use crate::class::class_matches;
@@ -66,6 +66,18 @@ pub fn push_folders(builder: &mut Builder, exit: usize) -> Result<usize, AllocEr
     let slash = builder.push_bytes(ByteSet::only(b'/'), exit)?;
     let stay = builder.push_loop(ByteSet::everything(), slash)?;
     builder.push_union(&[exit, stay])
+}
+
+/// Pushes the states of `/` and whatever follows, which lead to an end that names an index. Returns where they begin.
+pub fn push_below(builder: &mut Builder, index: usize) -> Result<usize, AllocError>
+    requires { index < builder.old.index_count }
+    ensures within { IfOk result (λ s. s < size builder.new) }
+    ensures grows { Grows builder.old builder.new }
+    ensures builds { IfOk result (λ s. BuildsBelow index builder.old.states builder.new.states s) }
+{
+    let end = builder.push_match(index)?;
+    let stay = builder.push_loop(ByteSet::everything(), end)?;
+    builder.push_bytes(ByteSet::only(b'/'), stay)
 }
 
 /// Pushes the states of an element, which lead to a state. Returns where they begin.

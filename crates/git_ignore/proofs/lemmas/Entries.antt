@@ -9,7 +9,7 @@ use Rattle.bit_sets.specs.Texts.{AllBytes}
 use Rattle.bit_sets.specs.declared.index_set.IndexSet.{IndexSet}
 use Rattle.byte_nfa.specs.Steps.{IsReached, NfaValue}
 use Rattle.glob_matching.specs.Matching.{AddsReached}
-use Rattle.ignore_pattern.specs.Automata.{IsAutomatonOf, matches_at}
+use Rattle.ignore_pattern.specs.Automata.{IsAutomatonOf, SomeAbove, above_index, matches_at}
 use Rattle.ignore_pattern.specs.Patterns.{Pattern, pattern_matches}
 use Rattle.git_ignore.specs.Rules.{Rule, applies, last_rule, told, deciding_rule, rules_of}
 use Rattle.git_ignore.specs.declared.entry.RuleEntry.{RuleEntry}
@@ -81,20 +81,20 @@ found_or_before true false r before = refl
 found_or_before false true r before = refl
 found_or_before false false r before = refl
 
-found_up_to : (c : Bool) (path : List ℕ) (is_folder : Bool) (is_found : ℕ → Bool) (rules : List Rule) → ((k : ℕ) → is_found k ≡ matches_at c (patterns_of rules) k path)
+found_up_to : (c : Bool) (path : List ℕ) (is_folder : Bool) (is_found : ℕ → Bool) (rules : List Rule) → ((k : ℕ) → k < length rules → is_found k ≡ matches_at c (patterns_of rules) k path)
     → (n : ℕ) → n ≤ length rules → last_found is_found is_folder (entries_of rules) n ≡ entry_of_rule (last_rule c path is_folder (take n rules))
 found_up_to c path f is_found rules same zero h = refl
 found_up_to c path f is_found rules same (suc n) h =
     let there = rule_there c path rules n (omega (arith, h)) in
     let r : Rule = there.0 in
     let before : Option Rule = last_rule c path f (take n rules) in
-    (λ i. let b = found_up_to c path f is_found rules same n (omega (arith, h)) i in if (same n ∙ there.1.matched) i then chosen f b (there.1.entry i) else b)
+    (λ i. let b = found_up_to c path f is_found rules same n (omega (arith, h)) i in if (same n (omega (arith, h)) ∙ there.1.matched) i then chosen f b (there.1.entry i) else b)
     ∙ found_or_before (pattern_matches c r.pattern path) (is_for f (entry_of r)) r before
     ∙ ap entry_of_rule (sym (last_rule_more c path f (take n rules) r) ∙ ap (last_rule c path f) (sym there.1.taken))
 
 -- the last entry that is found belongs to the last rule that applies
 pub found_is_last : (c : Bool) (path : List ℕ) (is_folder : Bool) (is_found : ℕ → Bool) (rules : List Rule) (entries es : List RuleEntry) (e : Option RuleEntry)
-    → entries ≡ entries_of rules → es ≡ entries → ((k : ℕ) → is_found k ≡ matches_at c (patterns_of rules) k path)
+    → entries ≡ entries_of rules → es ≡ entries → ((k : ℕ) → k < length rules → is_found k ≡ matches_at c (patterns_of rules) k path)
     → e ≡ last_found is_found is_folder es (length es) → e ≡ entry_of_rule (last_rule c path is_folder rules)
 found_is_last c path f is_found rules entries es e stored shown same is =
     let all : es ≡ entries_of rules = shown ∙ stored in
@@ -112,19 +112,29 @@ same_if_both false true h = absurd (false≢true (h.1 refl))
 
 -- a run finds the patterns that match
 pub found_matches : (c : Bool) (ps : List Pattern) (m : NfaValue) (path : List ℕ) (before after : IndexSet) → IsAutomatonOf c ps m → AllBytes path
-    → ((k : ℕ) → has_index before k ≡ false) → AddsReached m path before after → (k : ℕ) → has_index after k ≡ matches_at c ps k path
-found_matches c ps m path before after is bytes none adds k = same_if_both (has_index after k) (matches_at c ps k path) (
+    → ((k : ℕ) → has_index before k ≡ false) → AddsReached m path before after → (k : ℕ) → k < length ps → has_index after k ≡ matches_at c ps k path
+found_matches c ps m path before after is bytes none adds k low = same_if_both (has_index after k) (matches_at c ps k path) (
   λ h. of ((adds k).0 h),
-  λ h. (adds k).1 (inl ((is.reached path k bytes).1 h)),
+  λ h. (adds k).1 (inl ((is.reached path k bytes low).1 h)),
 )
   where
     of : IsReached m path k ⊎ IsTrue (has_index before k) → IsTrue (matches_at c ps k path)
-    of (inl h) = (is.reached path k bytes).0 h
+    of (inl h) = (is.reached path k bytes low).0 h
     of (inr h) = absurd (false≢true (sym (none k) ∙ h))
 
--- the automaton has an index for each entry
-pub entry_count : (c : Bool) (rules : List Rule) (m : NfaValue) (es : List RuleEntry) → AreStored c rules m es → m.index_count ≡ length es
-entry_count c rules m es h = h.finds_patterns.count ∙ length-map rules (λ (rule : Rule). rule.pattern) ∙ sym (length-map rules entry_of) ∙ ap length (sym h.same_entries)
+-- a run finds the index that tells of folders above the path, if a pattern of this kind matches one
+pub found_above : (c : Bool) (ps : List Pattern) (m : NfaValue) (path : List ℕ) (before after : IndexSet) (negated : Bool) → IsAutomatonOf c ps m → AllBytes path
+    → AddsReached m path before after → has_index after (above_index (length ps) negated) ≡ false → SomeAbove c negated ps path → ⊥
+found_above c ps m path before after negated is bytes adds lacks some =
+    false≢true (sym lacks ∙ (adds (above_index (length ps) negated)).1 (inl ((is.above path negated bytes).1 some)))
+
+-- there is an entry for each pattern
+pub pattern_count : (c : Bool) (rules : List Rule) (m : NfaValue) (es : List RuleEntry) → AreStored c rules m es → length (patterns_of rules) ≡ length es
+pattern_count c rules m es h = length-map rules (λ (rule : Rule). rule.pattern) ∙ sym (length-map rules entry_of) ∙ ap length (sym h.same_entries)
+
+-- the automaton has an index for each entry, and two more
+pub entry_count : (c : Bool) (rules : List Rule) (m : NfaValue) (es : List RuleEntry) → AreStored c rules m es → m.index_count ≡ length es + 2
+entry_count c rules m es h = h.finds_patterns.count ∙ ap (λ (n : ℕ). n + 2) (pattern_count c rules m es h)
 
 -- ---- the search for entries
 

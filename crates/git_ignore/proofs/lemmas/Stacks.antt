@@ -36,7 +36,7 @@ file_more files f path d =
     rule_from_more 0 files f path d ∙ ap (λ (k : ℕ). or_else (file_rule k path d f) (files_rule files path d)) same
 
 -- the files up to an index, and the one there
-files_up_to : (files : List FolderRules) (i : ℕ) (f : FolderRules) (path : List ℕ) (is_folder : Bool) → i < length files → f ≡ get_or files i f
+pub files_up_to : (files : List FolderRules) (i : ℕ) (f : FolderRules) (path : List ℕ) (is_folder : Bool) → i < length files → f ≡ get_or files i f
     → files_rule (files_of (take (i + 1) files)) path is_folder ≡ or_else (file_rule i path is_folder (file_of f)) (files_rule (files_of (take i files)) path is_folder)
 files_up_to files i f path d h e =
     let count : length (files_of (take i files)) ≡ i = length-map (take i files) file_of ∙ omega (arith, h, length-take i files) in

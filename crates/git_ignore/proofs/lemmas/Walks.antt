@@ -1,8 +1,10 @@
 -- The steps of a walk: its folders, and what is stored of them.
 use Rattle.std.proofs.Common.{◌≡◌, ℕ, List, [], ◌∷◌, ◌++◌, length, take, drop, Bool, true, refl, ap, sym, subst, ◌∙◌, append_assoc}
-use Rattle.std.specs.Prelude.{map, reverse, Option}
+use Rattle.std.specs.Prelude.{map, reverse, Option, slice_get}
+use Rattle.std.specs.Option.{option_map}
 use Rattle.std.proofs.lemmas.List.{drop-append-le, length-map, map-append, reverse-append, take-append-drop, take-append-le, take-map}
 use Rattle.std.proofs.lemmas.List.Elements.{All-append, All-take}
+use Rattle.std.proofs.lemmas.Option.{slice_get-map}
 use Rattle.std.proofs.Math.Seq.{drop-length, take-append_seam, take-length}
 use Rattle.git_ignore.specs.Folders.{IgnoreFile, files_rule}
 use Rattle.git_ignore.specs.TwoRules.{deciding, ignored_above, ignoring}
@@ -41,6 +43,11 @@ stored_files c folder b files levels scratch v h seen = sym (walk_files c folder
 pub stored_count : (c : Bool) (folder : List ℕ) (b : Option DecidingRule) (files : List FolderRules) (levels : List FolderLevel) (scratch : ScratchValue) (v : StackValue)
     → IsStack c folder b files levels scratch → stack_value c folder files levels ≡ v → length (stack_files v) ≡ length files
 stored_count c folder b files levels scratch v h seen = ap length (sym (stored_files c folder b files levels scratch v h seen)) ∙ length-map files file_of
+
+-- the file with this index
+pub stored_at : (c : Bool) (folder : List ℕ) (b : Option DecidingRule) (files : List FolderRules) (levels : List FolderLevel) (scratch : ScratchValue) (v : StackValue) (k : ℕ)
+    → IsStack c folder b files levels scratch → stack_value c folder files levels ≡ v → slice_get (stack_files v) k ≡ option_map file_of (slice_get files k)
+stored_at c folder b files levels scratch v k h seen = ap (λ (fs : List IgnoreFile). slice_get fs k) (sym (stored_files c folder b files levels scratch v h seen)) ∙ slice_get-map file_of files k
 
 pub stored_path : (c : Bool) (folder : List ℕ) (files : List FolderRules) (levels : List FolderLevel) (v : StackValue) → stack_value c folder files levels ≡ v → folder ≡ v.here.path
 stored_path c folder files levels v seen = sym (here_path folder (files_of files) (reverse levels)) ∙ ap (λ (v : StackValue). v.here.path) seen

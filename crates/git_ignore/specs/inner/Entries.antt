@@ -49,6 +49,10 @@ abbrev pub rule_at : ℕ → Option Pattern → List Rule
 rule_at number None = []
 rule_at number (Some p) = record { line = number; pattern = p } ∷ []
 
+-- the number of a line, if git cannot read it
+abbrev pub unread_at : ℕ → Bool → List ℕ
+unread_at number is_unread = if is_unread then number ∷ [] else []
+
 abbrev pub patterns_of : List Rule → List Pattern
 patterns_of rules = map (λ (rule : Rule). rule.pattern) rules
 

@@ -43,7 +43,7 @@ bytes_left : (x y : List ℕ) → AllBytes (x ++ y) → AllBytes x
 bytes_left [] y h = tt
 bytes_left (c ∷ cs) y h = (h.0, bytes_left cs y h.1)
 
-right_of : (w x y : List ℕ) → w ≡ x ++ y → AllBytes w → AllBytes y
+pub right_of : (w x y : List ℕ) → w ≡ x ++ y → AllBytes w → AllBytes y
 right_of w x y e h = bytes_right x y (subst AllBytes e h)
 
 left_of : (w x y : List ℕ) → w ≡ x ++ y → AllBytes w → AllBytes x
@@ -66,7 +66,7 @@ module _ (a : List State) where
   reads_goes k s t w y e (by_out s' t' z w' ts f m rest) = absurd (let g = sym e ∙ f in cc)
   reads_goes k s t w y e (by_stay s' c z w' ts f has rest) = absurd (let g = sym e ∙ f in cc)
 
-  skips_goes : (k s : ℕ) (ts y : List ℕ) → state a s ≡ union_state ts → Accepts a k s y → (t : ℕ) × HasNumber t ts × Accepts a k t y
+  pub skips_goes : (k s : ℕ) (ts y : List ℕ) → state a s ≡ union_state ts → Accepts a k s y → (t : ℕ) × HasNumber t ts × Accepts a k t y
   skips_goes k s ts y e (ends s' f) = absurd (let g = sym e ∙ f in cc)
   skips_goes k s ts y e (by_byte s' t' c z w' f has rest) = absurd (let g = sym e ∙ f in cc)
   skips_goes k s ts y e (by_skip s' t' z ts' f m rest) = let g = sym e ∙ f in let same : ts' ≡ ts = cc in (t', subst (HasNumber t') same m, rest)

@@ -1,18 +1,27 @@
-use Rattle.std.proofs.Common.{◌≡◌, ◌+◌, ◌-◌, take, refl, ap, sym, ◌∙◌, arith}
+use Rattle.std.proofs.Common.{◌≡◌, ◌+◌, ◌-◌, take, true, ap, sym, ◌∙◌, arith}
 use Rattle.std.proofs.Math.Seq.{take-length}
+use Rattle.git_ignore.proofs.lemmas.PathRules.{none_last}
 use Rattle.git_ignore.proofs.lemmas.TwoRules.{folder_decides, folder_undecided, nearest_above, nearest_itself, none_if_not_some, rule_above}
 use Rattle.git_ignore.proofs.two_rules.nearest.Goals as goal
 
 pub returns-then-is_some-clause-rule : goal.returns-then-is_some-clause-rule
 returns-then-is_some-clause-rule g c =
-    nearest_itself (g.R.DecidesAlone.alone c.args.rules.now) c.args.path.now c.args.is_folder _ c.rule_alone-rule.ensures.rule
+    nearest_itself (g.R.DecidesAlone.alone c.args.rules.now) c.args.path.now c.args.is_folder _ c.path_rule-told.ensures.rule.rule
     (sym c.is_some.ensures ∙ c.if-is_some.true)
+
+pub returns-then-not-may_be_decided-clause-rule : goal.returns-then-not-may_be_decided-clause-rule
+returns-then-not-may_be_decided-clause-rule g c =
+    let alone = g.R.DecidesAlone.alone c.args.rules.now in
+    let told = c.path_rule-told.ensures.rule in
+    sym (none_last (λ folder. alone folder true) c.args.path.now (told.undecided (sym c.may_be_decided.ensures ∙ c.if-not-may_be_decided.true)))
+    ∙ nearest_above alone c.args.path.now c.args.is_folder _ told.rule (none_if_not_some c.path_rule-told.result.rule (sym c.is_some.ensures ∙ c.if-is_some.false))
 
 pub loop-end-init : goal.loop-end-init
 loop-end-init g c = record {
-  scratch = refl;
+  scratch = c.path_rule-told.ensures.scratch;
   rest = ap (rule_above (g.R.DecidesAlone.alone c.args.rules.now)) (take-length c.args.path.now)
-      ∙ nearest_above (g.R.DecidesAlone.alone c.args.rules.now) c.args.path.now c.args.is_folder _ c.rule_alone-rule.ensures.rule (none_if_not_some c.rule_alone-rule.result (sym c.is_some.ensures ∙ c.if-is_some.false));
+      ∙ nearest_above (g.R.DecidesAlone.alone c.args.rules.now) c.args.path.now c.args.is_folder _ c.path_rule-told.ensures.rule.rule
+      (none_if_not_some c.path_rule-told.result.rule (sym c.is_some.ensures ∙ c.if-is_some.false));
 }
 
 pub returns-then-is_some-2-clause-rule : goal.returns-then-is_some-2-clause-rule

@@ -1,28 +1,16 @@
-use Rattle.std.proofs.Common.{◌≡◌, true, false, sym, ◌∙◌, subst}
 use Rattle.std.proofs.lemmas.Result.{IfOk-weaker}
-use Rattle.ignore_pattern.specs.Elements.{Folders, element_matches, elements_match}
+use Rattle.ignore_pattern.specs.Patterns.{pattern_matches}
 use Rattle.ignore_pattern.specs.inner.States.{Builds, BuildsPattern}
-use Rattle.ignore_pattern.proofs.lemmas.Automata.{whole_built, last_built}
+use Rattle.ignore_pattern.proofs.lemmas.Automata.{pattern_built}
 use Rattle.ignore_pattern.proofs.automaton.push_states.Goals as goal
 
-pub returns-then-is_whole-clause-builds : goal.returns-then-is_whole-clause-builds
-returns-then-is_whole-clause-builds c =
+pub returns-clause-builds : goal.returns-clause-builds
+returns-clause-builds c =
     let p = c.args.pattern.now in
-    let whole : p.whole ≡ true = sym c.is_whole.ensures.value ∙ c.if-is_whole.true in
-    whole_built c.args.ignore_case p c.args.index c.args.builder.now c.push_match.new.self c.push_elements.new.builder c.in_ok-start.start c.in_ok-end.end whole c.in_ok-end.ensures.pushed
-    c.push_elements.ensures.grows
-    (subst (λ es. Builds (elements_match c.args.ignore_case es) c.push_match.new.self.states c.push_elements.new.builder.states c.in_ok-start.start c.in_ok-end.end) c.elements.ensures c.in_ok-start.ensures.builds)
-
-pub returns-else-is_whole-clause-builds : goal.returns-else-is_whole-clause-builds
-returns-else-is_whole-clause-builds c =
-    let p = c.args.pattern.now in
-    let later = c.push_elements.new.builder in
-    let new = c.push_folders.new.builder in
-    let start = c.in_ok-start.start in
-    let not_whole : p.whole ≡ false = sym c.is_whole.ensures.value ∙ c.if-is_whole.false in
-    IfOk-weaker c.push_folders.result (λ s. Builds (element_matches false Folders) later.states new.states s start) (λ s. BuildsPattern c.args.ignore_case p c.args.index c.args.builder.now.states new.states s)
-    (λ s built. last_built c.args.ignore_case p c.args.index c.args.builder.now c.push_match.new.self later new s start c.in_ok-end.end not_whole (rw not_whole at c.is_whole.ensures.inside)
-    c.in_ok-end.ensures.pushed c.push_elements.ensures.grows
-    (subst (λ es. Builds (elements_match c.args.ignore_case es) c.push_match.new.self.states later.states start c.in_ok-end.end) c.elements.ensures c.in_ok-start.ensures.builds)
-    c.push_folders.ensures.grows built)
-    c.push_folders.ensures.builds
+    let parted = c.push_union.new.self in
+    let new = c.push_matching.new.builder in
+    IfOk-weaker c.push_matching.result (λ s. Builds (pattern_matches c.args.ignore_case p) parted.states new.states s c.in_ok-exit.exit)
+    (λ s. (f : _) → BuildsPattern c.args.ignore_case p c.args.index f c.args.below c.args.builder.now.states new.states s)
+    (λ s built f. pattern_built c.args.ignore_case p c.args.index f c.args.below c.args.builder.now c.push_match.new.self parted new s c.in_ok-end.end c.in_ok-exit.exit
+    c.in_ok-end.ensures.pushed c.in_ok-exit.ensures.pushed c.push_matching.ensures.grows built)
+    c.push_matching.ensures.builds
