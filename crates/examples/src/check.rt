@@ -2,8 +2,11 @@
 //!
 //! A rule never decides if later rules match each path that it matches. With `--overlaps` it prints the pairs of rules that match
 //! a path in common. Paths are those that git has: relative, with components that are not empty, `.` or `..`.
+//!
+//! An ignore file is told by its name, or by `--ignore`. Its rules for folders alone cover only rules for folders alone.
 
 mod findings;
+mod ignoring;
 mod overlaps;
 mod rules;
 mod unused;
@@ -13,16 +16,19 @@ use crate::fault::Fault;
 use crate::output::print_text;
 use crate::text_file::TextFile;
 use findings::Findings;
+use ignoring::{IgnoreRules, is_ignore_file};
 use rules::Rules;
 use std::process::ExitCode;
 
 pub const COMMAND: Command = Command {
     name: "check",
-    help: "usage: examples check [--overlaps] FILE
+    help: "usage: examples check [--overlaps|--ignore] FILE
 
 Each line of FILE is a pattern and its owners, as a CODEOWNERS has them; the last rule that matches a path decides about it.
 For each rule that never decides, its line, its pattern and the lines that cover it are written to standard output.
 With --overlaps it is each pair of rules that match a path in common, with a shortest such path.
+With --ignore, or if FILE is named .gitignore or .ignore, FILE has patterns as a .gitignore has them. Then a rule never decides if no
+path is decided by it alone, without the folders above the path.
 Paths are relative, and no component is empty, . or .. in them. A line says unknown where an answer takes more than 10,000 sets of
 states.
 The exit status is 0 if nothing was written, 1 if a line was, and 2 after an error. For each pattern that is wrong, the line is
@@ -32,6 +38,9 @@ written to standard error with a mark under the place.",
 /// The option that asks for pairs of rules.
 const OVERLAPS: &str = "--overlaps";
 
+/// The option that FILE is an ignore file.
+const IGNORE: &str = "--ignore";
+
 /// The most rows of a search.
 const LIMIT: usize = 10_000;
 
@@ -40,9 +49,15 @@ pub fn run(rt: &HostRuntime, arguments: &[String]) -> Result<ExitCode, Fault> {
     match arguments {
         [argument] if asks_for_help(argument) => print_text(rt, COMMAND.help),
         [option, name] if option.as_str() == OVERLAPS => check(rt, name.as_str(), true),
-        [name] if name.as_str() != OVERLAPS => check(rt, name.as_str(), false),
+        [option, name] if option.as_str() == IGNORE => check_ignore_file(rt, name.as_str()),
+        [name] if is_ignore_file(name.as_str()) => check_ignore_file(rt, name.as_str()),
+        [name] if !is_option(name.as_str()) => check(rt, name.as_str(), false),
         _ => Err(Fault::Usage),
     }
+}
+
+fn is_option(argument: &str) -> bool {
+    argument == OVERLAPS || argument == IGNORE
 }
 
 /// Prints the rules of a file that never decide, or the pairs that overlap.
@@ -57,5 +72,14 @@ fn check(rt: &HostRuntime, name: &str, overlaps: bool) -> Result<ExitCode, Fault
     } else {
         findings.push_unused(rt.alloc(), &rules)?;
     }
+    findings.write(rt)
+}
+
+/// Prints the rules of an ignore file that never decide.
+fn check_ignore_file(rt: &HostRuntime, name: &str) -> Result<ExitCode, Fault> {
+    let file = TextFile::read(rt, name)?;
+    let rules = IgnoreRules::read(rt.alloc(), &file)?;
+    let mut findings = Findings::new(rt.alloc(), &file);
+    findings.push_unused_ignoring(rt.alloc(), &rules)?;
     findings.write(rt)
 }

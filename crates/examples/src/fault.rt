@@ -52,7 +52,6 @@ impl Fault {
 }
 
 impl Drop for Fault {
-    // One call wherever a value is dropped, which keeps proofs short.
     fn drop(self) {
         match self {
             Fault::Usage | Fault::OutOfMemory => {}

@@ -11,7 +11,6 @@ pub struct Output {
 }
 
 impl Drop for Output {
-    // One call wherever a value is dropped, which keeps proofs short.
     fn drop(self) {
         let Output { bytes: _ } = self;
     }

@@ -10,7 +10,6 @@ pub struct Paths {
 }
 
 impl Drop for Paths {
-    // One call wherever a value is dropped, which keeps proofs short.
     fn drop(self) {
         let Paths { bytes: _ } = self;
     }

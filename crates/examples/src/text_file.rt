@@ -16,7 +16,6 @@ pub struct TextFile {
 }
 
 impl Drop for TextFile {
-    // One call wherever a value is dropped, which keeps proofs short.
     fn drop(self) {
         let TextFile { name: _, bytes: _ } = self;
     }

@@ -6,6 +6,11 @@ pub mod Equal
 pub mod Rows
 pub mod Walks
 pub mod Automata
+pub mod Told
+pub mod Patterns
+pub mod Rivals
+pub mod Finding
+pub mod Indexes
 pub mod Unused
 pub mod Laws
 pub mod Leading

@@ -2,7 +2,8 @@
 //! match a path in common, and which globs of a list never decide. Each answer has a path that shows it, or holds for all
 //! paths.
 //!
-//! [`covering`], [`overlap`] and [`unreachable`] are the calls. A question is about the paths of a [`Domain`].
+//! [`covering`], [`overlap`] and [`unreachable`] are the calls. [`covering_pattern`] and [`unreachable_rules`] ask about patterns
+//! and rules of ignore files. A question is about the paths of a [`Domain`].
 //!
 //! ```
 //! use glob_relations::{Coverage, Domain, covering};
@@ -17,17 +18,25 @@
 
 mod classes;
 mod domain;
+mod finding;
+mod indexes;
 pub mod laws;
 mod leading;
 mod pass;
+mod patterns;
 mod relations;
 mod rows;
+mod rules;
 mod search;
 mod unused;
 
 pub use domain::Domain;
+pub use patterns::covering_pattern;
 pub use relations::{Coverage, Intersection, covering, overlap};
+pub use rules::unreachable_rules;
 pub use unused::{Decides, Reachability, unreachable};
 
+#[cfg(test)]
+mod pattern_tests;
 #[cfg(test)]
 mod tests;

@@ -45,7 +45,7 @@ fn load(automaton: &Nfa, states: &[usize], into: &mut StateSet)
 ///
 /// It takes each state at most once, from the highest on. What a state of `from` goes on to without a byte is put into `from`,
 /// before the pass comes to it.
-fn step_set(automaton: &Nfa, byte: u8, from: &mut StateSet, to: &mut StateSet)
+pub fn step_set(automaton: &Nfa, byte: u8, from: &mut StateSet, to: &mut StateSet)
     requires from_capacity { size automaton.now ≤ state_capacity from.old }
     requires to_capacity { size automaton.now ≤ state_capacity to.old }
     ensures from_capacity { state_capacity from.new ≡ state_capacity from.old }

@@ -1,6 +1,6 @@
 //! Globs of a list that never decide.
 
-ghost use Rattle.std.specs.Prelude.{◌≡◌, ℕ, ◌+◌, ◌-◌, ◌<◌, ◌≤◌, ◌∷◌, ◌++◌, [], length, take, drop, Contains, slice_get, Some, IfOk, IsFalse, IsTrue, IsOkUnless, MatchOption, ◌↔◌};
+ghost use Rattle.std.specs.Prelude.{◌≡◌, ℕ, ◌+◌, ◌-◌, ◌<◌, ◌≤◌, ◌∷◌, [], length, Contains, slice_get, Some, IfOk, IsFalse, IsTrue, IsOkUnless, MatchOption, ◌↔◌};
 ghost use Rattle.std.specs.List.{range_with_len};
 ghost use Rattle.glob_strategy.specs.IndexedTokens.{IsFor};
 ghost use Rattle.glob_text.specs.Errors.{out_of_memory};
@@ -12,6 +12,7 @@ ghost use Rattle.glob_relations.specs.Unused.{globs_at, rivals, TellsReachabilit
 ghost use Rattle.glob_relations.specs.inner.Automata.{indexed_glob, indexed_globs};
 
 use crate::domain::Domain;
+use crate::indexes::without;
 use crate::relations::{Coverage, add, coverage_of};
 use crate::search::search;
 use byte_nfa::Nfa;
@@ -28,14 +29,14 @@ pub enum Decides {
     Last,
 }
 
-/// Whether a glob of a list ever decides.
+/// Whether a glob of a list ever decides, or a rule of an ignore file.
 #[derive(Drop)]
 pub enum Reachability {
     /// It decides for this path of the domain, and for no shorter path.
     Decides(Vec<u8>),
     /// It decides for no path of the domain: the globs at these indexes, which all come before it if the first match decides, and
-    /// after it if the last match decides, cover it. None of them can be left out. It is one index if one of them covers the glob
-    /// alone, and none if the glob matches no path of the domain.
+    /// after it if the last match decides, cover it. Of rules, these are later ones. None can be left out. It is one index if one of
+    /// them covers the glob alone, and none if the glob matches no path of the domain.
     Never(Vec<usize>),
     /// There are more rows than the limit.
     Unknown,
@@ -304,20 +305,6 @@ fn least_cover(
         }
     }
     Ok(Reachability::Never(set))
-}
-
-/// Returns the numbers of a list, without the number at a place.
-fn without(alloc: Global, list: &[usize], place: usize) -> Result<Vec<usize>, AllocError>
-    requires { place < length list.now }
-    ensures { IfOk result
-        (λ rest. rest.items ≡ take place list.now ++ drop (place + 1) list.now) }
-{
-    let before = &list[..place];
-    let after = &list[place + 1..];
-    let mut rest = Vec::new(alloc);
-    rest.extend_from_slice(before)?;
-    rest.extend_from_slice(after)?;
-    Ok(rest)
 }
 
 /// Returns whether each path of a domain that a glob matches is matched by some of the globs of a list at these indexes.

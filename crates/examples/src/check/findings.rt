@@ -1,5 +1,7 @@
 //! What is found about the rules of a file, a line each.
 
+use super::LIMIT;
+use super::ignoring::IgnoreRules;
 use super::overlaps::common;
 use super::rules::{Rule, Rules};
 use super::unused::{Use, uses};
@@ -7,7 +9,7 @@ use crate::fault::Fault;
 use crate::output::Output;
 use crate::shown::Shown;
 use crate::text_file::TextFile;
-use glob_relations::Intersection;
+use glob_relations::{Domain, Intersection, Reachability, unreachable_rules};
 use std::alloc::{AllocError, Global};
 use std::fmt;
 use std::process::ExitCode;
@@ -20,7 +22,6 @@ pub struct Findings<'a> {
 }
 
 impl Drop for Findings<'_> {
-    // One call wherever a value is dropped, which keeps proofs short.
     fn drop(self) {
         let Findings {
             file: _,
@@ -51,6 +52,30 @@ impl<'a> Findings<'a> {
                     self.push(alloc, *rule, "never decides: ", Covering(&lines))?;
                 }
                 Use::Unknown => self.push(alloc, *rule, "may never decide: ", "unknown")?,
+            }
+        }
+        Ok(())
+    }
+
+    /// Adds each rule of an ignore file that never decides, and each that may never decide.
+    pub fn push_unused_ignoring(
+        &mut self,
+        alloc: Global,
+        rules: &IgnoreRules<'_>,
+    ) -> Result<(), Fault> {
+        let domain = Domain::RelativePaths;
+        let found = unreachable_rules(alloc, &rules.patterns, false, domain, LIMIT)?;
+        for (rule, found) in rules.rules.iter().zip(&found) {
+            match found {
+                Reachability::Decides(_) => {}
+                Reachability::Never(by) => {
+                    let lines = ignoring_lines(alloc, rules, by)?;
+                    let covering = Covering(&lines);
+                    self.push_line(alloc, rule.line, rule.text, "never decides: ", covering)?;
+                }
+                Reachability::Unknown => {
+                    self.push_line(alloc, rule.line, rule.text, "may never decide: ", "unknown")?;
+                }
             }
         }
         Ok(())
@@ -101,9 +126,21 @@ impl<'a> Findings<'a> {
         relation: &str,
         what: impl fmt::Display + Drop,
     ) -> Result<(), Fault> {
-        let pattern = Shown(rule.pattern.as_bytes());
+        self.push_line(alloc, rule.line, rule.pattern.as_bytes(), relation, what)
+    }
+
+    /// Adds a line about the rule of a line, which is printed by its text.
+    fn push_line(
+        &mut self,
+        alloc: Global,
+        number: usize,
+        text: &[u8],
+        relation: &str,
+        what: impl fmt::Display + Drop,
+    ) -> Result<(), Fault> {
+        let text = Shown(text);
         let file = Shown(self.file.as_bytes());
-        let line = format!(in alloc; "{file}:{}: {pattern} {relation}{what}", rule.line)?;
+        let line = format!(in alloc; "{file}:{number}: {text} {relation}{what}")?;
         self.is_empty = false;
         self.output.push_line(&[line.as_bytes()])?;
         Ok(())
@@ -157,6 +194,21 @@ impl fmt::Display for Covering<'_> {
 
 /// Returns the numbers of the lines of the rules with these indexes.
 fn lines(alloc: Global, rules: &Rules<'_>, indexes: &[usize]) -> Result<Vec<usize>, AllocError> {
+    let mut lines = Vec::new(alloc);
+    for index in indexes {
+        if let Some(rule) = rules.rules.get(*index) {
+            lines.push(rule.line)?;
+        }
+    }
+    Ok(lines)
+}
+
+/// Returns the numbers of the lines of the rules with these indexes, of an ignore file.
+fn ignoring_lines(
+    alloc: Global,
+    rules: &IgnoreRules<'_>,
+    indexes: &[usize],
+) -> Result<Vec<usize>, AllocError> {
     let mut lines = Vec::new(alloc);
     for index in indexes {
         if let Some(rule) = rules.rules.get(*index) {

@@ -25,7 +25,6 @@ pub struct Rules<'t> {
 }
 
 impl Drop for Rules<'_> {
-    // One call wherever a value is dropped, which keeps proofs short.
     fn drop(self) {
         let Rules { rules: _, globs: _ } = self;
     }

@@ -19,7 +19,6 @@ pub enum Use {
 }
 
 impl Drop for Use {
-    // One call wherever a value is dropped, which keeps proofs short.
     fn drop(self) {
         match self {
             Use::Decides | Use::Unknown => {}

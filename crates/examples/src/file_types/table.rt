@@ -18,7 +18,6 @@ pub struct Table<'t> {
 }
 
 impl Drop for Table<'_> {
-    // One call wherever a value is dropped, which keeps proofs short.
     fn drop(self) {
         let Table {
             searcher: _,
@@ -73,7 +72,6 @@ struct Types<'t> {
 }
 
 impl Drop for Types<'_> {
-    // One call wherever a value is dropped, which keeps proofs short.
     fn drop(self) {
         let Types { globs: _, names: _ } = self;
     }

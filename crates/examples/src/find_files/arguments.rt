@@ -58,7 +58,6 @@ pub struct Arguments<'a> {
 }
 
 impl Drop for Arguments<'_> {
-    // One call wherever a value is dropped, which keeps proofs short.
     fn drop(self) {
         let Arguments {
             flags: _,

@@ -21,7 +21,6 @@ pub struct Globs {
 }
 
 impl Drop for Globs {
-    // One call wherever a value is dropped, which keeps proofs short.
     fn drop(self) {
         let Globs { searcher: _ } = self;
     }

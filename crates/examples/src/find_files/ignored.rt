@@ -12,7 +12,6 @@ pub struct Ignored {
 }
 
 impl Drop for Ignored {
-    // One call wherever a value is dropped, which keeps proofs short.
     fn drop(self) {
         let Ignored { stack: _ } = self;
     }

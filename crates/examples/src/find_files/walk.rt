@@ -38,7 +38,6 @@ pub struct Walk {
 }
 
 impl Drop for Walk {
-    // One call wherever a value is dropped, which keeps proofs short.
     fn drop(self) {
         let Walk {
             globs: _,

@@ -13,7 +13,6 @@ pub struct IgnoreFile {
 }
 
 impl Drop for IgnoreFile {
-    // One call wherever a value is dropped, which keeps proofs short.
     fn drop(self) {
         let IgnoreFile {
             text: _,

@@ -13,7 +13,6 @@ pub struct Walk {
 }
 
 impl Drop for Walk {
-    // One call wherever a value is dropped, which keeps proofs short.
     fn drop(self) {
         let Walk { stack: _ } = self;
     }

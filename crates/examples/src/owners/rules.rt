@@ -15,7 +15,6 @@ pub struct Rules<'t> {
 }
 
 impl Drop for Rules<'_> {
-    // One call wherever a value is dropped, which keeps proofs short.
     fn drop(self) {
         let Rules {
             searcher: _,
@@ -54,7 +53,6 @@ struct Patterns<'t> {
 }
 
 impl Drop for Patterns<'_> {
-    // One call wherever a value is dropped, which keeps proofs short.
     fn drop(self) {
         let Patterns {
             globs: _,

@@ -1,6 +1,6 @@
 -- What an automaton of globs reaches.
-use Rattle.std.proofs.Common.{◌≡◌, ℕ, zero, suc, ◌<◌, ◌⊎◌, inl, inr, Bool, true, false, true≢false, List, [], ◌∷◌, IsTrue, refl, sym, ◌∙◌, subst, arith}
-use Rattle.std.specs.Prelude.{◌↔◌, IsFalse}
+use Rattle.std.proofs.Common.{◌≡◌, ℕ, zero, suc, ◌<◌, ◌⊎◌, inl, inr, true≢false, List, [], ◌∷◌, IsTrue, refl, sym, ◌∙◌, subst, arith}
+use Rattle.std.specs.Prelude.{◌↔◌}
 use Rattle.std.proofs.lemmas.Bool.{or_cases}
 use Rattle.std.proofs.Math.Logic.{⊎_elim}
 use Rattle.bit_sets.specs.Texts.{AllBytes}
@@ -13,12 +13,12 @@ use Rattle.glob_text.specs.GlobMatches.{GlobValue, tokens_of_glob, glob_matches}
 use Rattle.glob_relations.specs.Answers.{some_match, IsMissed, IsShared, TellsCovering, TellsOverlap}
 use Rattle.glob_relations.specs.declared.domain.Domain.{Domain}
 use Rattle.glob_relations.specs.inner.Automata.{indexed_glob, indexed_globs}
-use Rattle.glob_relations.specs.Shortest.{IsShortest}
 use Rattle.glob_relations.specs.inner.Rows.{IsWantedText, TellsSearch}
 use Rattle.glob_relations.specs.inner.Told.{coverage_of, intersection_of}
 use Rattle.glob_relations.specs.declared.search.Answer.{Answer}
 use Rattle.glob_relations.specs.declared.search.Answer.TheVariants.{Found, Nothing, Limit}
 use Rattle.glob_relations.proofs.lemmas.Domains.{is_in}
+use Rattle.glob_relations.proofs.lemmas.Told.{is_false, is_true, shortest_same}
 
 -- a glob that was added by its tokens and options
 pub glob_added : (P : IndexedTokens → Type 0) (g : GlobValue) (o : Options) (ts : Tokens) (j : ℕ) → o ≡ g.options → tokens_of_glob g ≡ ts → P (indexed o ts j) → P (indexed_glob j g)
@@ -48,18 +48,6 @@ some_back j (g ∷ gs) path k h = ⊎_elim {C = (j ≡ k) × IsTrue (some_match 
     (λ (is, this). (is, or_first (glob_matches g path) (some_match gs path) this))
     (λ other. let (is, some) = some_back j gs path k other in (is, or_second (glob_matches g path) (some_match gs path) some))
     (one_back j g (indexed_globs j gs) path k h)
-
-is_false : (b : Bool) → (IsTrue b → ⊥) → IsFalse b
-is_false true h = absurd (h refl)
-is_false false h = refl
-
-is_true : (b : Bool) → (IsFalse b → ⊥) → IsTrue b
-is_true true h = refl
-is_true false h = absurd (h refl)
-
--- the shortest of texts that have a property has each property that the same texts have
-shortest_same : (P Q : List ℕ → Type 0) (text : List ℕ) → ((y : List ℕ) → P y ↔ Q y) → IsShortest P text → IsShortest Q text
-shortest_same P Q text same (has, least) = ((same text).0 has, λ other q. least other ((same other).1 q))
 
 module _ (m : NfaValue) (g : GlobValue) (by : List GlobValue) (domain : Domain) (is : IsFor m (indexed_glob 0 g ∷ indexed_globs 1 by)) where
   -- the paths that the search wants are those that are missed

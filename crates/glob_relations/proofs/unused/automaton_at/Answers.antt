@@ -7,7 +7,7 @@ use Rattle.glob_strategy.specs.IndexedTokens.{IsFor}
 use Rattle.glob_text.specs.GlobMatches.{GlobValue}
 use Rattle.glob_relations.specs.Unused.{with_glob, globs_at}
 use Rattle.glob_relations.specs.inner.Automata.{indexed_glob, indexed_globs}
-use Rattle.glob_relations.proofs.lemmas.Unused.{contains_index}
+use Rattle.glob_relations.proofs.lemmas.Indexes.{contains_index}
 use Rattle.glob_relations.proofs.unused.automaton_at.Goals as goal
 
 pub loop-k-init : goal.loop-k-init

@@ -4,7 +4,8 @@ use Rattle.std.proofs.lemmas.Bool.{cases_lt}
 use Rattle.std.proofs.Math.Logic.{⊎_elim}
 use Rattle.glob_relations.specs.Answers.{IsCovered}
 use Rattle.glob_relations.specs.Unused.{globs_at, IsLeastCover}
-use Rattle.glob_relations.proofs.lemmas.Unused.{contains_index, contains_one, each_contained, least_one, missed_uncovered}
+use Rattle.glob_relations.proofs.lemmas.Indexes.{contains_index, contains_one, each_contained}
+use Rattle.glob_relations.proofs.lemmas.Unused.{least_one, missed_uncovered}
 use Rattle.glob_relations.proofs.unused.cover.Goals as goal
 
 pub covers_alone-requires-clause-within : goal.covers_alone-requires-clause-within

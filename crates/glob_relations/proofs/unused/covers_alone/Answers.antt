@@ -1,5 +1,5 @@
 use Rattle.std.proofs.Common.{ℕ, ◌<◌, length, subst}
-use Rattle.glob_relations.proofs.lemmas.Unused.{contains_one}
+use Rattle.glob_relations.proofs.lemmas.Indexes.{contains_one}
 use Rattle.glob_relations.proofs.unused.covers_alone.Goals as goal
 
 pub covering_at-requires : goal.covering_at-requires

@@ -4,7 +4,8 @@ use Rattle.glob_text.specs.GlobMatches.{GlobValue}
 use Rattle.glob_relations.specs.Answers.{IsMissed, some_match}
 use Rattle.glob_relations.specs.Shortest.{IsShortest}
 use Rattle.glob_relations.specs.Unused.{globs_at}
-use Rattle.glob_relations.proofs.lemmas.Unused.{split_taken, shortest_missed, rest_is}
+use Rattle.glob_relations.proofs.lemmas.Indexes.{split_taken, rest_is}
+use Rattle.glob_relations.proofs.lemmas.Unused.{shortest_missed}
 use Rattle.glob_relations.proofs.unused.decide.Goals as goal
 
 pub place_of_match-requires : goal.place_of_match-requires

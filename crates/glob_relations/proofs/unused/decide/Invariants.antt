@@ -2,7 +2,7 @@ use Rattle.std.proofs.Common.{length}
 use Rattle.glob_relations.specs.Answers.{IsMissed}
 use Rattle.glob_relations.specs.Shortest.{IsShortest}
 use Rattle.glob_relations.specs.Unused.{globs_at}
-use Rattle.glob_relations.proofs.lemmas.Unused.{IsSplit}
+use Rattle.glob_relations.proofs.lemmas.Indexes.{IsSplit}
 use Rattle.glob_relations.proofs.unused.decide.Given as goal
 
 abbrev pub invariant-loop-rest : goal.invariant-loop-rest

@@ -3,7 +3,8 @@ use Rattle.std.specs.Prelude.{Contains, slice_get}
 use Rattle.std.proofs.lemmas.Option.{get_or_from_slice_get}
 use Rattle.glob_text.specs.GlobMatches.{GlobValue}
 use Rattle.glob_relations.specs.Unused.{rivals, TellsReachability}
-use Rattle.glob_relations.proofs.lemmas.Unused.{if_ok_more, rivals_below, told_same}
+use Rattle.glob_relations.proofs.lemmas.Indexes.{if_ok_more}
+use Rattle.glob_relations.proofs.lemmas.Unused.{rivals_below, told_same}
 use Rattle.glob_relations.proofs.unused.find_reachability.Goals as goal
 
 pub reachability_among-requires-clause-within : goal.reachability_among-requires-clause-within

@@ -2,7 +2,8 @@ use Rattle.std.proofs.Common.{ℕ, List, ◌++◌, sym, ap, subst, ◌∙◌, ar
 use Rattle.std.specs.Prelude.{Contains}
 use Rattle.glob_relations.specs.Answers.{IsCovered}
 use Rattle.glob_relations.specs.Unused.{globs_at}
-use Rattle.glob_relations.proofs.lemmas.Unused.{IsCoverTo, rest_is, contains_rest, length_rest, cover_first, cover_fewer, cover_kept, cover_least, missed_uncovered}
+use Rattle.glob_relations.proofs.lemmas.Indexes.{rest_is, contains_rest, length_rest}
+use Rattle.glob_relations.proofs.lemmas.Unused.{IsCoverTo, cover_first, cover_fewer, cover_kept, cover_least, missed_uncovered}
 use Rattle.glob_relations.proofs.unused.least_cover.Goals as goal
 
 pub covering_at-requires : goal.covering_at-requires

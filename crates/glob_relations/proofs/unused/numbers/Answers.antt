@@ -1,6 +1,6 @@
 use Rattle.std.proofs.Common.{◌≡◌, ◌+◌, ◌-◌, ◌∷◌, ◌++◌, [], ap, sym, ◌∙◌, arith}
 use Rattle.std.specs.List.{range_with_len}
-use Rattle.glob_relations.proofs.lemmas.Unused.{range_more}
+use Rattle.glob_relations.proofs.lemmas.Indexes.{range_more}
 use Rattle.glob_relations.proofs.unused.numbers.Goals as goal
 
 pub loop-k-init : goal.loop-k-init

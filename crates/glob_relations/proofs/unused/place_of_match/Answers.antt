@@ -4,7 +4,8 @@ use Rattle.std.proofs.lemmas.Bool.{cases_lt}
 use Rattle.std.proofs.lemmas.Option.{get_or_from_slice_get}
 use Rattle.std.proofs.Math.Logic.{⊎_elim}
 use Rattle.glob_text.specs.GlobMatches.{GlobValue, glob_matches}
-use Rattle.glob_relations.proofs.lemmas.Unused.{contains_index, each_contained, none_match}
+use Rattle.glob_relations.proofs.lemmas.Indexes.{contains_index, each_contained}
+use Rattle.glob_relations.proofs.lemmas.Unused.{none_match}
 use Rattle.glob_relations.proofs.unused.place_of_match.Goals as goal
 
 pub offset_bounds-matchers-indexes : goal.offset_bounds-matchers-indexes

@@ -1,0 +1,66 @@
+use Rattle.std.proofs.Common.{ℕ, List, sym, subst, ◌∙◌, arith}
+use Rattle.std.specs.Prelude.{Contains}
+use Rattle.glob_relations.specs.Patterns.{IsPatternCovered, patterns_at}
+use Rattle.glob_relations.proofs.lemmas.Indexes.{rest_is, contains_rest, length_rest}
+use Rattle.glob_relations.proofs.lemmas.Rivals.{IsCoverTo, cover_first, cover_fewer, cover_kept, cover_least, missed_uncovered}
+use Rattle.glob_relations.proofs.rules.least_cover.Goals as goal
+
+pub covering_at-requires : goal.covering_at-requires
+covering_at-requires c = λ k at.
+    let set = c.loop-i.set.items in
+    let fewer = rest_is c.in_ok-fewer.fewer.items set c.deref.result.now c.loop-i.i c.deref.ensures.value c.in_ok-fewer.ensures in
+    c.requires.within k (c.loop-i.invariant.cover.within k (contains_rest set c.loop-i.i k (subst (λ (xs : List ℕ). Contains xs k) (c.deref-in-loop-i.ensures.value ∙ fewer) at)))
+
+pub loop-i-init : goal.loop-i-init
+loop-i-init c = record {
+  within = omega arith;
+  cover = subst (λ (xs : List ℕ). IsCoverTo c.args.ignore_case c.args.patterns.now c.args.pattern.now c.args.others.now c.args.domain xs 0) (sym c.in_ok-set.ensures.items)
+      (cover_first c.args.ignore_case c.args.patterns.now c.args.pattern.now c.args.others.now c.args.by.now c.args.domain c.requires.by c.requires.covered);
+}
+
+pub loop-i-preserved-in-Covered : goal.loop-i-preserved-in-Covered
+loop-i-preserved-in-Covered c =
+    let ps = c.args.patterns.now in
+    let p = c.args.pattern.now in
+    let domain = c.args.domain in
+    let set = c.loop-i.set.items in
+    let i = c.loop-i.i in
+    let fewer = rest_is c.in_ok-fewer.fewer.items set c.deref.result.now i c.deref.ensures.value c.in_ok-fewer.ensures in
+    let ok = rw c.in-Covered.is at c.in_ok-covering_at.ensures in
+    let len = length_rest set i (omega arith) in
+    record {
+      within = rw fewer (omega arith);
+      cover = subst (λ (xs : List ℕ). IsCoverTo c.args.ignore_case ps p c.args.others.now domain xs i) (sym fewer)
+          (cover_fewer c.args.ignore_case ps p c.args.others.now domain set i (omega arith) c.loop-i.invariant.cover
+          (subst (λ (xs : List ℕ). IsPatternCovered c.args.ignore_case p (patterns_at ps xs) domain) (c.deref-in-loop-i.ensures.value ∙ fewer) ok));
+    }
+
+pub loop-i-preserved : goal.loop-i-preserved
+loop-i-preserved c =
+    let ps = c.args.patterns.now in
+    let p = c.args.pattern.now in
+    let domain = c.args.domain in
+    let set = c.loop-i.set.items in
+    let i = c.loop-i.i in
+    let now = c.deref-in-loop-i.result.now in
+    let fewer = rest_is c.in_ok-fewer.fewer.items set c.deref.result.now i c.deref.ensures.value c.in_ok-fewer.ensures in
+    let ok = rw c.in-Not.is at c.in_ok-covering_at.ensures in
+    record {
+      within = omega arith;
+      cover = cover_kept c.args.ignore_case ps p c.args.others.now domain set i (omega arith) c.loop-i.invariant.cover
+          (λ covered. missed_uncovered c.args.ignore_case p (patterns_at ps now) domain c.in-Not.field-0.items ok.0
+          (subst (λ (xs : List ℕ). IsPatternCovered c.args.ignore_case p (patterns_at ps xs) domain) (sym (c.deref-in-loop-i.ensures.value ∙ fewer)) covered));
+    }
+
+pub returns-in-Unknown : goal.returns-in-Unknown
+returns-in-Unknown c =
+    let set = c.loop-i.set.items in
+    let fewer = rest_is c.in_ok-fewer.fewer.items set c.deref.result.now c.loop-i.i c.deref.ensures.value c.in_ok-fewer.ensures in
+    let ok = rw c.in-Unknown.is at c.in_ok-covering_at.ensures in (
+      c.deref-in-loop-i.result.now,
+      λ k at. c.loop-i.invariant.cover.within k (contains_rest set c.loop-i.i k (subst (λ (xs : List ℕ). Contains xs k) (c.deref-in-loop-i.ensures.value ∙ fewer) at)),
+      ok,
+    )
+
+pub returns : goal.returns
+returns c = cover_least c.args.ignore_case c.args.patterns.now c.args.pattern.now c.args.others.now c.args.domain c.loop-i.set.items c.loop-i.i (omega arith) c.loop-i.invariant.cover c.requires.single

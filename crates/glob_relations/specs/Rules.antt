@@ -1,0 +1,45 @@
+-- Rules of an ignore file that never decide. Each rule is given by its pattern, in the order of the lines, and named by its index.
+use Rattle.std.specs.Prelude.{◌≡◌, ◌≢◌, ℕ, ◌<◌, Bool, not, ◌&&◌, ◌||◌, List, [], ◌∷◌, length, Contains, Some, slice_get, IsTrue}
+use Rattle.ignore_pattern.specs.Patterns.{Pattern, pattern_matches}
+use Rattle.glob_relations.specs.Domains.{IsIn}
+use Rattle.glob_relations.specs.Patterns.{IsPatternCovered, patterns_at, TellsPatternCovering}
+use Rattle.glob_relations.specs.Shortest.{IsShortest}
+use Rattle.glob_relations.specs.declared.domain.Domain.{Domain}
+use Rattle.glob_relations.specs.declared.relations.Coverage.TheVariants.{Unknown}
+use Rattle.glob_relations.specs.declared.unused.Reachability.{Reachability}
+use Rattle.glob_relations.specs.declared.unused.Reachability.TheVariants.{Decides as DecidesFor, Never, Unknown as Undecided}
+
+-- The rule applies to the path, of a folder or of something else: it matches the path, which has to be a folder if the rule is
+-- for folders alone.
+abbrev pub applies : Bool → Pattern → List ℕ → Bool → Bool
+applies ignore_case p path is_folder = (is_folder || not p.folders_only) && pattern_matches ignore_case p path
+
+-- The rule of the index i, with the pattern p, decides about the path alone, of a folder or of something else: it applies, and no
+-- later rule does.
+abbrev pub DecidesAlone : Bool → List Pattern → ℕ → Pattern → List ℕ → Bool → Type 0
+DecidesAlone ignore_case ps i p path is_folder = IsTrue (applies ignore_case p path is_folder)
+    × ((k : ℕ) (q : Pattern) → i < k → slice_get ps k ≡ Some q → IsTrue (applies ignore_case q path is_folder) → ⊥)
+
+-- the path is in the domain, and the rule decides about it alone, if it is that of a folder, or if it is that of something else
+abbrev pub IsDecided : Bool → List Pattern → ℕ → Pattern → Domain → List ℕ → Type 0
+IsDecided ignore_case ps i p domain path = IsIn domain path × ((is_folder : Bool) × DecidesAlone ignore_case ps i p path is_folder)
+
+-- the rule of the index k comes later, and applies to folders and to others wherever the rule of the index i does
+abbrev pub IsRival : List Pattern → ℕ → Pattern → ℕ → Type 0
+IsRival ps i p k = (i < k) × ((q : Pattern) × (slice_get ps k ≡ Some q) × IsTrue (p.folders_only || not q.folders_only))
+
+-- The rule never decides: the rules at the indexes of the set are its rivals, and cover it. Without any of them they do not cover
+-- it. The set has several indexes only if no rival covers it alone.
+pub record NeverDecides (ignore_case : Bool) (ps : List Pattern) (i : ℕ) (p : Pattern) (domain : Domain) (set : List ℕ) : Type 0 where
+  pub never : (path : List ℕ) → IsDecided ignore_case ps i p domain path → ⊥
+  pub within : (k : ℕ) → Contains set k → IsRival ps i p k
+  pub covers : IsPatternCovered ignore_case p (patterns_at ps set) domain
+  pub least : (k : ℕ) → Contains set k → (rest : List ℕ) → ((j : ℕ) → Contains rest j → Contains set j × (j ≢ k)) → IsPatternCovered ignore_case p (patterns_at ps rest) domain → ⊥
+  pub single : 1 < length set → (k : ℕ) → IsRival ps i p k → IsPatternCovered ignore_case p (patterns_at ps (k ∷ [])) domain → ⊥
+
+-- The answer is right: the path is a shortest path about which the rule decides alone; or the rule never decides, and the set is a
+-- least cover by rivals; or paths lead to more than `limit` different rows of an automaton for the rule and some of its rivals.
+abbrev pub TellsRule : Bool → List Pattern → ℕ → Pattern → Domain → ℕ → Reachability → Type 0
+TellsRule ignore_case ps i p domain limit (DecidesFor path) = IsShortest (IsDecided ignore_case ps i p domain) path.items
+TellsRule ignore_case ps i p domain limit (Never set) = NeverDecides ignore_case ps i p domain set.items
+TellsRule ignore_case ps i p domain limit Undecided = (by : List ℕ) × ((k : ℕ) → Contains by k → IsRival ps i p k) × TellsPatternCovering ignore_case p (patterns_at ps by) domain limit Unknown

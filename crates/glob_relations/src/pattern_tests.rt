@@ -1,0 +1,102 @@
+//! What no clause says about patterns of ignore files: that calls succeed, and which answers they give where a limit is large
+//! enough.
+
+use crate::{Coverage, Domain, Reachability, covering_pattern, unreachable_rules};
+use ignore_pattern::{IgnorePattern, pattern_of_line};
+use std::alloc::{AllocError, Global};
+
+/// A line, lines that may cover it, whether case is ignored, and a shortest relative path that they miss, if there is any.
+const COVERED: [(&str, &[&str], bool, Option<&str>); 13] = [
+    ("*.o", &["*"], false, None),
+    ("*.o", &["/*"], false, Some("0/.o")),
+    ("/a", &["a"], false, None),
+    ("a", &["/a"], false, Some("0/a")),
+    ("a", &["**/a"], false, None),
+    ("a", &["/a", "*/**/a"], false, None),
+    ("doc/*.txt", &["doc/**"], false, None),
+    ("doc/**", &["doc/*"], false, Some("doc/0/0")),
+    ("[ab]", &["!b", "a/"], false, None),
+    ("[ab]", &["a"], false, Some("b")),
+    ("*.C", &["*.c"], false, Some(".C")),
+    ("[A-Z]x", &["?X"], true, None),
+    ("a//b", &[], false, None),
+];
+
+/// Lines, and for each the later lines that cover it, if it never decides.
+const RULES: [(&[&str], &[Option<&[usize]>]); 9] = [
+    (&["*.o", "!*.o"], &[Some(&[1]), None]),
+    (&["build/", "build"], &[Some(&[1]), None]),
+    (&["build", "build/"], &[None, None]),
+    (&["/build/", "!*/"], &[Some(&[1]), None]),
+    (&["/a.log", "*.log", "!keep.log"], &[Some(&[1]), None, None]),
+    (
+        &["[a-d]", "[ab]", "[cd]/", "q", "[cd]"],
+        &[Some(&[1, 4]), None, Some(&[4]), None, None],
+    ),
+    (&["[a-d]/", "[ab]/", "[cd]/"], &[Some(&[1, 2]), None, None]),
+    (&["a//b", "a"], &[Some(&[]), None]),
+    (&[], &[]),
+];
+
+fn patterns(alloc: Global, lines: &[&str]) -> Result<Vec<IgnorePattern>, AllocError> {
+    let mut patterns = Vec::new(alloc);
+    for line in lines {
+        if let Some(pattern) = pattern_of_line(alloc, line.as_bytes())? {
+            patterns.push(pattern)?;
+        }
+    }
+    Ok(patterns)
+}
+
+#[test]
+fn patterns_cover(rt: HostRuntime) -> Result<(), AllocError> {
+    for (row, (line, by, ignore_case, missed)) in COVERED.iter().enumerate() {
+        let others = patterns(rt.alloc(), by)?;
+        for pattern in &patterns(rt.alloc(), &[*line])? {
+            let answer = covering_pattern(
+                rt.alloc(),
+                pattern,
+                &others,
+                *ignore_case,
+                Domain::RelativePaths,
+                1000,
+            )?;
+            let is_right = match (&answer, missed) {
+                (Coverage::Covered, None) => true,
+                (Coverage::Not(path), Some(missed)) => path.as_slice() == missed.as_bytes(),
+                _ => false,
+            };
+            assert!(rt; is_right, "row {row}");
+        }
+    }
+    Ok(())
+}
+
+fn is_as_told(told: &Reachability, wanted: &Option<&[usize]>) -> bool {
+    match (told, wanted) {
+        (Reachability::Decides(_), None) => true,
+        (Reachability::Never(set), Some(wanted)) => set.as_slice() == *wanted,
+        _ => false,
+    }
+}
+
+#[test]
+fn rules_never_decide(rt: HostRuntime) -> Result<(), AllocError> {
+    for (row, (lines, wanted)) in RULES.iter().enumerate() {
+        let list = patterns(rt.alloc(), lines)?;
+        let told = unreachable_rules(rt.alloc(), &list, false, Domain::RelativePaths, 1000)?;
+        assert_eq!(rt; told.len(), wanted.len(), "row {row}");
+        for (told, wanted) in told.iter().zip(*wanted) {
+            assert!(rt; is_as_told(told, wanted), "row {row}");
+        }
+    }
+    let list = patterns(rt.alloc(), &["abc", "abd"])?;
+    let told = unreachable_rules(rt.alloc(), &list, false, Domain::AllPaths, 1)?;
+    assert!(rt;
+        matches!(
+            told.as_slice(),
+            [Reachability::Unknown, Reachability::Unknown]
+        )
+    );
+    Ok(())
+}

@@ -1,0 +1,313 @@
+//! Rules of an ignore file that never decide.
+
+ghost use Rattle.std.specs.Prelude.{◌≡◌, ℕ, ◌<◌, ◌||◌, not, ◌∷◌, [], length, Contains, slice_get, Some, IfOk, IsTrue, IsFalse, MatchOption, ◌↔◌};
+ghost use Rattle.bit_sets.specs.Indexes.{has_index};
+ghost use Rattle.ignore_pattern.specs.Patterns.{Pattern};
+ghost use Rattle.glob_relations.specs.Patterns.{IsPatternCovered, IsPatternMissed, TellsPatternCovering, patterns_at};
+ghost use Rattle.glob_relations.specs.Rules.{IsRival, TellsRule};
+ghost use Rattle.glob_relations.specs.Shortest.{IsShortest};
+ghost use Rattle.glob_relations.specs.declared.relations.Coverage.TheVariants.{Unknown};
+ghost use Rattle.glob_relations.specs.inner.Finding.{FindsEach};
+ghost use Rattle.glob_relations.specs.inner.Rivals.{TellsAmong};
+
+use crate::domain::Domain;
+use crate::finding::{automaton_of_list, found_indexes, place_of_found};
+use crate::indexes::without;
+use crate::patterns::covering_at;
+use crate::relations::Coverage;
+use crate::unused::Reachability;
+use bit_sets::IndexSet;
+use byte_nfa::Nfa;
+use ignore_pattern::IgnorePattern;
+use std::alloc::{AllocError, Global};
+
+/// Returns for each rule of an ignore file, given by its pattern in the order of the lines, whether it ever decides about a path
+/// of a domain alone, and otherwise which later rules cover it.
+///
+/// The last rule that applies decides. A rule for folders alone applies to no other path, so it covers only rules for folders
+/// alone. Which rules are negated has no effect, nor has what is decided about the folders above a path. Patterns match as
+/// `core.ignoreCase` of git says.
+///
+/// For each rule it searches for a shortest path that the rule matches. If a rival, a later rule that applies to folders and to
+/// others wherever it does, matches that path, it searches again, as [`covering_pattern`] does, with this rival, and so on, as
+/// [`unreachable`] does for globs. Each search has the limit. Fails only if memory runs out.
+///
+/// [`covering_pattern`]: crate::covering_pattern
+/// [`unreachable`]: crate::unreachable
+pub fn unreachable_rules(
+    alloc: Global,
+    patterns: &[IgnorePattern],
+    ignore_case: bool,
+    domain: Domain,
+    limit: usize,
+) -> Result<Vec<Reachability>, AllocError>
+    ensures len { IfOk result (λ all. length all.items ≡ length patterns.now) }
+    ensures each { IfOk result
+        (λ all. (i : ℕ) (p : Pattern) (told : Reachability)
+        → slice_get patterns.now i ≡ Some p → slice_get all.items i ≡ Some told
+        → TellsRule ignore_case patterns.now i p domain limit told) }
+{
+    let automaton = automaton_of_list(alloc, patterns, ignore_case)?;
+    let mut all = Vec::new(alloc);
+    for i in 0..patterns.len() {
+        all.push(rule_reachability(alloc, patterns, &automaton, i, ignore_case, domain, limit)?)?;
+    }
+    Ok(all)
+}
+
+/// Returns whether the rule of an index ever decides. The automaton finds which rules match a path.
+fn rule_reachability(
+    alloc: Global,
+    patterns: &[IgnorePattern],
+    automaton: &Nfa,
+    i: usize,
+    ignore_case: bool,
+    domain: Domain,
+    limit: usize,
+) -> Result<Reachability, AllocError>
+    requires within { i < length patterns.now }
+    requires finds { FindsEach ignore_case patterns.now automaton.now }
+    ensures { IfOk result
+        (λ told. (p : Pattern) → slice_get patterns.now i ≡ Some p
+        → TellsRule ignore_case patterns.now i p domain limit told) }
+{
+    let pattern = &patterns[i];
+    let others = rivals(alloc, pattern, patterns, i)?;
+    reachability_among(
+        alloc,
+        pattern,
+        patterns,
+        automaton,
+        &others,
+        ignore_case,
+        domain,
+        limit,
+    )
+}
+
+/// Returns the indexes of the later rules that apply to each kind of path, of folders or of others, that a rule applies to.
+fn rivals(
+    alloc: Global,
+    pattern: &IgnorePattern,
+    patterns: &[IgnorePattern],
+    i: usize,
+) -> Result<Vec<usize>, AllocError>
+    requires { i < length patterns.now }
+    ensures { IfOk result
+        (λ others. (k : ℕ) → Contains others.items k ↔ IsRival patterns.now i pattern.now k) }
+{
+    let mut others = Vec::new(alloc);
+    for k in i + 1..patterns.len() {
+        if applies_wherever(&patterns[k], pattern) {
+            others.push(k)?;
+        }
+    }
+    Ok(others)
+}
+
+/// Returns whether a rule is for folders and for others wherever another rule is.
+fn applies_wherever(rule: &IgnorePattern, other: &IgnorePattern) -> bool
+    ensures { result ≡ (other.now.folders_only || not rule.now.folders_only) }
+{
+    other.is_folders_only() || !rule.is_folders_only()
+}
+
+/// Returns whether a rule ever decides, where the rules at these indexes can decide instead.
+fn reachability_among(
+    alloc: Global,
+    pattern: &IgnorePattern,
+    patterns: &[IgnorePattern],
+    automaton: &Nfa,
+    others: &[usize],
+    ignore_case: bool,
+    domain: Domain,
+    limit: usize,
+) -> Result<Reachability, AllocError>
+    requires within { (k : ℕ) → Contains others.now k → k < length patterns.now }
+    requires finds { FindsEach ignore_case patterns.now automaton.now }
+    ensures { IfOk result
+        (TellsAmong ignore_case patterns.now pattern.now others.now domain limit) }
+{
+    match covering_at(alloc, pattern, patterns, &[], ignore_case, domain, limit)? {
+        Coverage::Covered => Ok(Reachability::Never(Vec::new(alloc))),
+        Coverage::Not(path) => decide(
+            alloc,
+            pattern,
+            patterns,
+            automaton,
+            others,
+            path,
+            ignore_case,
+            domain,
+            limit,
+        ),
+        Coverage::Unknown => Ok(Reachability::Unknown),
+    }
+}
+
+/// Returns whether a rule ever decides, by a shortest path that it matches. Rivals that match the path so far are put together
+/// until they cover the rule, or no other rival matches the next path.
+fn decide(
+    alloc: Global,
+    pattern: &IgnorePattern,
+    patterns: &[IgnorePattern],
+    automaton: &Nfa,
+    others: &[usize],
+    first: Vec<u8>,
+    ignore_case: bool,
+    domain: Domain,
+    limit: usize,
+) -> Result<Reachability, AllocError>
+    requires within { (k : ℕ) → Contains others.now k → k < length patterns.now }
+    requires finds { FindsEach ignore_case patterns.now automaton.now }
+    requires first { IsShortest (IsPatternMissed ignore_case pattern.now [] domain) first.items }
+    ensures { IfOk result
+        (TellsAmong ignore_case patterns.now pattern.now others.now domain limit) }
+{
+    let mut path = first;
+    let mut by = Vec::new(alloc);
+    let mut rest = Vec::from_slice(alloc, others)?;
+    loop {
+        let found = found_indexes(alloc, automaton, &path)?;
+        let Some(place) = place_of_found(&found, &rest) else {
+            return Ok(Reachability::Decides(path));
+        };
+        by.push(rest[place])?;
+        rest = without(alloc, &rest, place)?;
+        match covering_at(alloc, pattern, patterns, &by, ignore_case, domain, limit)? {
+            Coverage::Covered => {
+                return cover(
+                    alloc,
+                    pattern,
+                    patterns,
+                    others,
+                    &by,
+                    &found,
+                    ignore_case,
+                    domain,
+                    limit,
+                );
+            }
+            Coverage::Not(next) => path = next,
+            Coverage::Unknown => return Ok(Reachability::Unknown),
+        }
+    }
+}
+
+/// Returns the index of a rule that covers another alone, or the indexes of several that cover it together. The rules at `by`
+/// cover it, and it matches a path: a rule that is not among those that were found for this path does not cover it.
+fn cover(
+    alloc: Global,
+    pattern: &IgnorePattern,
+    patterns: &[IgnorePattern],
+    others: &[usize],
+    by: &[usize],
+    found: &IndexSet,
+    ignore_case: bool,
+    domain: Domain,
+    limit: usize,
+) -> Result<Reachability, AllocError>
+    requires within { (k : ℕ) → Contains others.now k → k < length patterns.now }
+    requires by { (k : ℕ) → Contains by.now k → Contains others.now k }
+    requires covered { IsPatternCovered ignore_case pattern.now
+        (patterns_at patterns.now by.now) domain }
+    requires some { IsPatternCovered ignore_case pattern.now [] domain → ⊥ }
+    requires found { (k : ℕ) → IsFalse (has_index found.now k)
+        → IsPatternCovered ignore_case pattern.now (patterns_at patterns.now (k ∷ [])) domain → ⊥ }
+    ensures { IfOk result
+        (TellsAmong ignore_case patterns.now pattern.now others.now domain limit) }
+{
+    for k in others {
+        let Some(covers) = covers_alone(
+            alloc,
+            pattern,
+            patterns,
+            *k,
+            found,
+            ignore_case,
+            domain,
+            limit,
+        )?
+        else {
+            return Ok(Reachability::Unknown);
+        };
+        if covers {
+            return Ok(Reachability::Never(Vec::from_array(alloc, [*k])?));
+        }
+    }
+    least_cover(
+        alloc,
+        pattern,
+        patterns,
+        others,
+        by,
+        ignore_case,
+        domain,
+        limit,
+    )
+}
+
+/// Returns whether the rule at an index covers another alone, or `None` if there are more rows than the limit. It does not if it
+/// is not among those that were found.
+fn covers_alone(
+    alloc: Global,
+    pattern: &IgnorePattern,
+    patterns: &[IgnorePattern],
+    k: usize,
+    found: &IndexSet,
+    ignore_case: bool,
+    domain: Domain,
+    limit: usize,
+) -> Result<Option<bool>, AllocError>
+    requires within { k < length patterns.now }
+    requires found { IsFalse (has_index found.now k)
+        → IsPatternCovered ignore_case pattern.now (patterns_at patterns.now (k ∷ [])) domain → ⊥ }
+    ensures { IfOk result
+        (λ told. MatchOption told
+        (TellsPatternCovering ignore_case pattern.now (patterns_at patterns.now (k ∷ [])) domain
+        limit Unknown)
+        (λ covers. IsTrue covers
+        ↔ IsPatternCovered ignore_case pattern.now (patterns_at patterns.now (k ∷ [])) domain)) }
+{
+    if !found.has(k) {
+        return Ok(Some(false));
+    }
+    match covering_at(alloc, pattern, patterns, &[k], ignore_case, domain, limit)? {
+        Coverage::Covered => Ok(Some(true)),
+        Coverage::Not(_) => Ok(Some(false)),
+        Coverage::Unknown => Ok(None),
+    }
+}
+
+/// Returns some of the indexes `by`, whose rules cover another, so that none can be left out. It tries to leave out each in turn.
+fn least_cover(
+    alloc: Global,
+    pattern: &IgnorePattern,
+    patterns: &[IgnorePattern],
+    others: &[usize],
+    by: &[usize],
+    ignore_case: bool,
+    domain: Domain,
+    limit: usize,
+) -> Result<Reachability, AllocError>
+    requires within { (k : ℕ) → Contains others.now k → k < length patterns.now }
+    requires by { (k : ℕ) → Contains by.now k → Contains others.now k }
+    requires covered { IsPatternCovered ignore_case pattern.now
+        (patterns_at patterns.now by.now) domain }
+    requires single { (k : ℕ) → Contains others.now k
+        → IsPatternCovered ignore_case pattern.now (patterns_at patterns.now (k ∷ [])) domain → ⊥ }
+    ensures { IfOk result
+        (TellsAmong ignore_case patterns.now pattern.now others.now domain limit) }
+{
+    let mut set = Vec::from_slice(alloc, by)?;
+    let mut i = 0;
+    while i < set.len() {
+        let fewer = without(alloc, &set, i)?;
+        match covering_at(alloc, pattern, patterns, &fewer, ignore_case, domain, limit)? {
+            Coverage::Covered => set = fewer,
+            Coverage::Not(_) => i += 1,
+            Coverage::Unknown => return Ok(Reachability::Unknown),
+        }
+    }
+    Ok(Reachability::Never(set))
+}
