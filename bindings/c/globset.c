@@ -13,10 +13,11 @@
 #include <stdbool.h>
 #include <string.h>
 
-/* What is passed on in place of null: an address of bytes and of indexes, of which none are read or written. */
+/* What is passed on in place of null: an address of bytes, of indexes and of rules, of which none are read or written. */
 static const size_t no_items[1];
 static size_t no_numbers[1];
 static uint8_t no_room[1];
+static globset_told_rule no_rules[1];
 static const globset_error no_error = {0, 0, 0, 0};
 
 /* ---- Results ---- */
@@ -631,6 +632,21 @@ int globset_ignore_decide_many(globset_ignore *ignore, const char *paths, size_t
     if (answers == NULL) answers = no_room;
     return result_of(
         globset_raw_ignore_decide_many(&owned, bytes.at, bytes.length, end_offsets, count, by, answers, count));
+}
+
+int globset_ignore_rules_many(globset_ignore *ignore, const char *paths, size_t length, const size_t *end_offsets,
+                              size_t count, uint32_t by, globset_told_rule *rules) {
+    globset_owned owned = own(ignore);
+    struct bytes bytes;
+    int result = find_bytes(paths, length, &bytes);
+    if (ignore == NULL) return GLOBSET_ENULL;
+    if (result != GLOBSET_OK) return result;
+    if (count >= GLOBSET_ZERO_TERMINATED / sizeof *rules) return GLOBSET_ELENGTH;
+    if (count > 0 && (end_offsets == NULL || rules == NULL)) return GLOBSET_ENULL;
+    if (end_offsets == NULL) end_offsets = no_items;
+    if (rules == NULL) rules = no_rules;
+    return result_of(
+        globset_raw_ignore_rules_many(&owned, bytes.at, bytes.length, end_offsets, count, by, rules, count));
 }
 
 int globset_ignore_unread_lines(globset_ignore *ignore, size_t file, const size_t **lines, size_t *count) {

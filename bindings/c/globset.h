@@ -380,6 +380,14 @@ typedef struct globset_rule {
     size_t line;
 } globset_rule;
 
+/* The rule that decides about one of many paths: the members of globset_rule, and what globset_ignore_decide_many finds
+ * out about the path. No member is added in one interface. */
+typedef struct globset_told_rule {
+    size_t file;
+    size_t line;
+    uint32_t decision;
+} globset_told_rule;
+
 /* Makes a walk in its top directory, without files. GLOBSET_EOPTIONS, GLOBSET_ENOMEM. */
 GLOBSET_CHECKED int globset_ignore_new(uint32_t options, globset_ignore **ignore);
 
@@ -398,8 +406,8 @@ GLOBSET_CHECKED int globset_ignore_leave(globset_ignore *ignore);
 
 /* Returns whether a rule ignores the path. `is_directory` is 0 if it is no directory. `rule` is the rule that decides: if
  * the answer is 0 and the line is not 0, that rule keeps the path. After an error both members are 0. Time is a pass over
- * the path for each file and, unless `by` is GLOBSET_BY_PATH, such passes for each directory that the path names: so it
- * is less for the name of an entry of the directory that the walk is in. GLOBSET_EOPTIONS: `by` is none of those above.
+ * the path for each file and, if a rule matches a directory above it and `by` is not GLOBSET_BY_PATH, at most such passes
+ * for each directory that the path names. GLOBSET_EOPTIONS: `by` is none of those above.
  * GLOBSET_ENOMEM: the walk keeps the memory that it takes for later calls. */
 GLOBSET_CHECKED int globset_ignore_is_ignored(globset_ignore *ignore, const char *path, size_t length, int is_directory,
                                               uint32_t by, globset_rule *rule);
@@ -411,6 +419,13 @@ GLOBSET_CHECKED int globset_ignore_is_ignored(globset_ignore *ignore, const char
  * back. Otherwise time and memory are those of globset_ignore_is_ignored. */
 GLOBSET_CHECKED int globset_ignore_decide_many(globset_ignore *ignore, const char *paths, size_t length,
                                                const size_t *end_offsets, size_t count, uint32_t by, uint8_t *answers);
+
+/* Finds the rules that decide about `count` paths, which are passed as to globset_ignore_decide_many. GLOBSET_OK: rules[i]
+ * is the rule that decides about path number i. Otherwise as globset_ignore_decide_many: the call takes as many bytes as
+ * there are in `rules`, and gives them back. */
+GLOBSET_CHECKED int globset_ignore_rules_many(globset_ignore *ignore, const char *paths, size_t length,
+                                              const size_t *end_offsets, size_t count, uint32_t by,
+                                              globset_told_rule *rules);
 
 /* Finds the lines of a file that git cannot read, such as `[a`, which match nothing. The file is that of an index as in
  * globset_rule. GLOBSET_OK: `lines` points to the numbers of the lines, ascending, from 1, and `count` says how many they

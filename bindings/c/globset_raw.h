@@ -342,6 +342,14 @@ globset_status globset_raw_ignore_decide_many(globset_owned *ignore, const uint8
                                               const size_t *ends, size_t ends_len, uint32_t by, uint8_t *answers,
                                               size_t answers_len);
 
+/* Finds the rules that decide about many paths, which are passed as to globset_raw_ignore_decide_many. GLOBSET_DONE:
+ * rules[i] has the decision that globset_raw_ignore_decide_many writes of path number i, and the file and the line that
+ * globset_raw_ignore_decide writes. Otherwise no rule was written: as at globset_raw_ignore_decide_many, but that the call
+ * takes as many bytes as there are in `rules`. */
+globset_status globset_raw_ignore_rules_many(globset_owned *ignore, const uint8_t *paths, size_t paths_len,
+                                             const size_t *ends, size_t ends_len, uint32_t by, globset_told_rule *rules,
+                                             size_t rules_len);
+
 /* Lends the numbers of the lines of a file that git cannot read, ascending, from 1. The file is that of an index as
  * globset_raw_ignore_decide tells it. Blank lines and comments are not among them. It takes no memory. GLOBSET_DONE: they
  * may be read until the next call that the walk is passed to, globset_raw_free too. The caller writes nothing there.

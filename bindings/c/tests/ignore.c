@@ -21,6 +21,10 @@ static int decides(globset_ignore *ignore, const char *path, int is_directory, u
     return rule.file == file && rule.line == line;
 }
 
+static int is_rule(globset_told_rule rule, globset_told_rule wanted) {
+    return rule.file == wanted.file && rule.line == wanted.line && rule.decision == wanted.decision;
+}
+
 /* A line, and paths that it matches and that it does not. */
 static void patterns(void) {
     static const struct {
@@ -142,6 +146,31 @@ static void many(void) {
     globset_ignore_free(ignore);
 }
 
+/* The rules of many paths, which are those of one path each. */
+static void rules_many(void) {
+    static const char paths[] = "outout/out/ab.ok.o", rest[] = "x";
+    static const size_t ends[MANY] = {3, 7, 12, 15, 18, 18}, descending[2] = {3, 2}, beyond[1] = {4};
+    static const globset_told_rule wanted[3][MANY] = {
+        {{0, 0, 0}, {0, 1, 1}, {0, 1, 1}, {0, 3, 1}, {1, 2, 2}, {0, 0, 0}},
+        {{0, 0, 0}, {0, 1, 1}, {0, 2, 2}, {0, 3, 1}, {1, 2, 2}, {0, 0, 0}},
+        {{0, 0, 0}, {0, 1, 1}, {0, 2, 2}, {0, 3, 1}, {1, 2, 2}, {0, 0, 0}}};
+    static const globset_told_rule before = {7, 8, 9};
+    globset_ignore *ignore = ignore_of("out/\n!out/a\n*.o\n", 0);
+    globset_told_rule rules[MANY];
+    CHECK(globset_ignore_add_file(ignore, TEXT("# kept\n!k.o\n")) == GLOBSET_OK);
+    for (uint32_t by = GLOBSET_BY_GIT; by <= GLOBSET_BY_PATH; by++) {
+        CHECK(globset_ignore_rules_many(ignore, TEXT(paths), ends, MANY, by, rules) == GLOBSET_OK);
+        for (int i = 0; i < MANY; i++) CHECK(is_rule(rules[i], wanted[by][i]));
+    }
+    for (int i = 0; i < MANY; i++) rules[i] = before;
+    CHECK(globset_ignore_rules_many(ignore, TEXT(paths), descending, 2, 0, rules) == GLOBSET_EOFFSETS);
+    CHECK(globset_ignore_rules_many(ignore, TEXT(rest), beyond, 1, 0, rules) == GLOBSET_EOFFSETS);
+    CHECK(globset_ignore_rules_many(ignore, TEXT(rest), beyond, 1, 3, rules) == GLOBSET_EOPTIONS);
+    CHECK(globset_ignore_rules_many(ignore, NULL, 0, NULL, 0, 0, NULL) == GLOBSET_OK);
+    for (int i = 0; i < MANY; i++) CHECK(is_rule(rules[i], before));
+    globset_ignore_free(ignore);
+}
+
 static void unread_lines(void) {
     globset_ignore *ignore = ignore_of("a\n[b\n\n#[\nc\\\n[[:x:]]", 0);
     const size_t *lines = NULL;
@@ -177,6 +206,7 @@ int main(void) {
     walk();
     options();
     many();
+    rules_many();
     unread_lines();
     example();
     puts("ignore: passed");

@@ -132,6 +132,7 @@ static void try_ignore(void) {
     static const char file[] = "*a*b*\n[c\n!/src/ab\nout/\n";
     const size_t ends[] = {2, 6};
     uint8_t answers[2] = {7, 7};
+    globset_told_rule rules[2] = {{7, 7, 7}, {7, 7, 7}};
     globset_ignore *ignore;
     globset_rule rule = {7, 7};
     const size_t *lines;
@@ -149,6 +150,9 @@ static void try_ignore(void) {
     TRY(globset_ignore_decide_many(ignore, TEXT("about/"), ends, 2, GLOBSET_BY_GIT, answers), GLOBSET_OK,
         CHECK(answers[0] == 7 && answers[1] == 7));
     CHECK(answers[0] == GLOBSET_KEPT && answers[1] == GLOBSET_IGNORED);
+    TRY(globset_ignore_rules_many(ignore, TEXT("about/"), ends, 2, GLOBSET_BY_GIT, rules), GLOBSET_OK,
+        CHECK(rules[0].line == 7 && rules[1].line == 7));
+    CHECK(rules[0].line == 3 && rules[1].line == 4);
     left = 0;
     CHECK(globset_ignore_unread_lines(ignore, 0, &lines, &count) == GLOBSET_OK && count == 1 && lines[0] == 2);
     CHECK(globset_ignore_leave(ignore) == GLOBSET_OK);

@@ -169,6 +169,7 @@ static void ignores(void) {
     globset_glob *glob = glob_of("a", 0);
     globset_ignore *ignore = (globset_ignore *)glob;
     globset_rule rule = {7, 7};
+    globset_told_rule told = {7, 7, 7};
     const size_t *lines = &end;
     size_t count = 7;
     uint8_t answer = 7;
@@ -187,6 +188,10 @@ static void ignores(void) {
     CHECK(globset_ignore_decide_many(ignore, NULL, 1, &end, 1, 0, &answer) == GLOBSET_ENULL);
     CHECK(globset_ignore_decide_many(ignore, "a", 1, NULL, 1, 0, &answer) == GLOBSET_ENULL && answer == 7);
     CHECK(globset_ignore_decide_many(ignore, "a", 1, &end, 1, 0, NULL) == GLOBSET_ENULL);
+    CHECK(globset_ignore_rules_many(NULL, "a", 1, &end, 1, 0, &told) == GLOBSET_ENULL);
+    CHECK(globset_ignore_rules_many(ignore, NULL, 1, &end, 1, 0, &told) == GLOBSET_ENULL);
+    CHECK(globset_ignore_rules_many(ignore, "a", 1, NULL, 1, 0, &told) == GLOBSET_ENULL && told.line == 7);
+    CHECK(globset_ignore_rules_many(ignore, "a", 1, &end, 1, 0, NULL) == GLOBSET_ENULL);
     CHECK(globset_ignore_unread_lines(NULL, 0, &lines, &count) == GLOBSET_ENULL && lines == NULL && count == 0);
     CHECK(globset_ignore_unread_lines(ignore, 0, NULL, &count) == GLOBSET_ENULL);
     CHECK(globset_ignore_unread_lines(ignore, 0, &lines, NULL) == GLOBSET_ENULL);
@@ -232,6 +237,7 @@ static void no_ignore(void *object) {
     static const size_t end = 1;
     globset_ignore *ignore = (globset_ignore *)object;
     globset_rule rule = {7, 7};
+    globset_told_rule told = {7, 7, 7};
     const size_t *lines = &end;
     size_t count = 7;
     uint8_t answer = 7;
@@ -240,6 +246,7 @@ static void no_ignore(void *object) {
     CHECK(globset_ignore_leave(ignore) == GLOBSET_EKIND);
     CHECK(globset_ignore_is_ignored(ignore, "a", 1, 0, 0, &rule) == GLOBSET_EKIND && rule.file == 0 && rule.line == 0);
     CHECK(globset_ignore_decide_many(ignore, "a", 1, &end, 1, 0, &answer) == GLOBSET_EKIND && answer == 7);
+    CHECK(globset_ignore_rules_many(ignore, "a", 1, &end, 1, 0, &told) == GLOBSET_EKIND && told.line == 7);
     CHECK(globset_ignore_unread_lines(ignore, 0, &lines, &count) == GLOBSET_EKIND && lines == NULL && count == 0);
 }
 
@@ -368,6 +375,7 @@ static void impossible_lengths(void) {
 static void impossible_lengths_of_ignores(void) {
     static const size_t impossible[] = {(size_t)-1, (size_t)-2, GLOBSET_ZERO_TERMINATED + 1}, end = 1;
     globset_ignore *ignore;
+    globset_told_rule told = {7, 7, 7};
     CHECK(globset_ignore_new(0, &ignore) == GLOBSET_OK);
     for (int i = 0; i < 3; i++) {
         size_t wrong = impossible[i];
@@ -378,7 +386,12 @@ static void impossible_lengths_of_ignores(void) {
         CHECK(globset_ignore_is_ignored(ignore, "a", wrong, 0, 0, &rule) == GLOBSET_ELENGTH && rule.line == 0);
         CHECK(globset_ignore_decide_many(ignore, "a", wrong, &end, 1, 0, &answer) == GLOBSET_ELENGTH);
         CHECK(globset_ignore_decide_many(ignore, "a", 1, &end, wrong, 0, &answer) == GLOBSET_ELENGTH && answer == 7);
+        CHECK(globset_ignore_rules_many(ignore, "a", wrong, &end, 1, 0, &told) == GLOBSET_ELENGTH);
+        CHECK(globset_ignore_rules_many(ignore, "a", 1, &end, wrong, 0, &told) == GLOBSET_ELENGTH && told.line == 7);
     }
+    CHECK(globset_ignore_rules_many(ignore, "a", 1, &end, GLOBSET_ZERO_TERMINATED / sizeof told, 0, &told) ==
+              GLOBSET_ELENGTH &&
+          told.line == 7);
     globset_ignore_free(ignore);
 }
 

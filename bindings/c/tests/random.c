@@ -126,8 +126,9 @@ static void walk(struct caller *caller) {
     globset_rule rule;
     const size_t *lines;
     uint8_t answers[2];
+    globset_told_rule rules[2];
     int result;
-    switch (next(caller, 5)) {
+    switch (next(caller, 6)) {
     case 0:
         note(caller, globset_ignore_is_ignored(ignore, bytes, length, 0, by, next(caller, 9) ? &rule : NULL));
         break;
@@ -136,6 +137,10 @@ static void walk(struct caller *caller) {
                                                 next(caller, 9) ? answers : NULL));
         break;
     case 2: note(caller, globset_ignore_unread_lines(ignore, next(caller, 3), &lines, &count)); break;
+    case 4:
+        note(caller, globset_ignore_rules_many(ignore, bytes, length, next(caller, 9) ? ends : NULL, many, by,
+                                               next(caller, 9) ? rules : NULL));
+        break;
     case 3:
         note(caller, globset_ignore_new((uint32_t)next(caller, 3), next(caller, 9) ? &made : NULL));
         globset_answers_free((globset_answers *)made);

@@ -37,8 +37,8 @@ pub struct Glob {
 /// A matcher of ignore files, for paths below its root. A clone is one more reference.
 ///
 /// Calls can be made from any thread, and are answered one at a time. Time is a pass over the path for all rules; two of the calls,
-/// [`Gitignore::matched_path_or_any_parents`] and [`Gitignore::matched_by_git`], take such a pass for each directory that the path
-/// names, too. Running out of memory ends the program.
+/// [`Gitignore::matched_path_or_any_parents`] and [`Gitignore::matched_by_git`], take at most such a pass for each directory that the
+/// path names, too, if a rule matches one of them. Running out of memory ends the program.
 #[derive(Clone)]
 pub struct Gitignore {
     root: PathBuf,

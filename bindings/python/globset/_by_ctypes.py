@@ -276,12 +276,19 @@ class IgnoreFiles:
     def decide_many(self, paths: Iterable[Path], by: int, /) -> List[Optional[bool]]:
         """Returns for each path whether a rule ignores it, or None without a rule. A ``/`` at its end is that of a directory."""
         decisions = (None, True, False)
-        return [decisions[byte] for byte in self._ask_many([_bytes_of(path) for path in list(_many(paths))], by)]
+        return [decisions[byte] for byte in self._answers([_bytes_of(path) for path in list(_many(paths))], by)]
+
+    def rules_many(self, paths: Iterable[Path], by: int, /) -> List[Optional[Tuple[bool, int, int]]]:
+        """Returns for each path what ``decide`` returns. A ``/`` at its end is that of a directory."""
+        parts = [_bytes_of(path) for path in list(_many(paths))]
+        rules = (_library.ToldRule * max(len(parts), 1))()
+        self._ask_many(_library.ignore_rules_many, parts, by, rules)
+        return [(rule.decision == 1, rule.file, rule.line) if rule.decision else None for rule in rules[: len(parts)]]
 
     def filter(self, paths: Iterable[_AnyPath], by: int, /) -> List[_AnyPath]:
         """Returns the paths that no rule ignores, in order."""
         asked = list(_many(paths))
-        answers = self._ask_many([_bytes_of(path) for path in asked], by)
+        answers = self._answers([_bytes_of(path) for path in asked], by)
         return [path for path, byte in zip(asked, answers) if byte != 1]
 
     def unread_lines(self, file: int, /) -> List[int]:
@@ -301,14 +308,17 @@ class IgnoreFiles:
         _library.raise_unless_done(status)
         return copied
 
-    def _ask_many(self, parts: List[bytes], by: int) -> bytes:
+    def _answers(self, parts: List[bytes], by: int) -> bytes:
         """Returns a byte for each path: 1 if it is ignored, 2 if it is kept, and 0 if no rule decides."""
+        answers = ctypes.create_string_buffer(max(len(parts), 1))
+        self._ask_many(_library.ignore_decide_many, parts, by, answers)
+        return answers.raw[: len(parts)]
+
+    def _ask_many(self, call: Callable[..., int], parts: List[bytes], by: int, told: Any) -> None:
+        """Has the library write what it tells of each path."""
         data, ends, count = b"".join(parts), _ends_of(parts), len(parts)
-        answers = ctypes.create_string_buffer(max(count, 1))
         ends_at, _ = ends.buffer_info()
-        status = self._call(_library.ignore_decide_many, data, len(data), ends_at, count, by, answers, count)
-        _library.raise_unless_done(status)
-        return answers.raw[:count]
+        _library.raise_unless_done(self._call(call, data, len(data), ends_at, count, by, told, count))
 
     def _call(self, call: Callable[..., int], *arguments: Any) -> int:
         """Makes a call of the library when no other thread makes one."""

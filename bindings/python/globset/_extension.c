@@ -645,6 +645,7 @@ static PyMethodDef ignore_methods[] = {
     {"leave", ignore_leave, METH_NOARGS, IGNORE_LEAVE},
     {"decide", ignore_decide, METH_VARARGS, IGNORE_DECIDE},
     {"decide_many", ignore_decide_many, METH_VARARGS, IGNORE_DECIDE_MANY},
+    {"rules_many", ignore_rules_many, METH_VARARGS, IGNORE_RULES_MANY},
     {"filter", ignore_filter, METH_VARARGS, IGNORE_FILTER},
     {"unread_lines", ignore_unread_lines, METH_O, IGNORE_UNREAD_LINES},
     {NULL, NULL, 0, NULL},

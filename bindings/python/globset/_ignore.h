@@ -95,6 +95,12 @@ static int read_entry(PyObject *asked, int *is_directory, struct path *path) {
     return 0;
 }
 
+/* A rule as Python sees it, which is None if the line is 0. */
+static PyObject *rule_of(int is_ignored, size_t file, size_t line) {
+    if (line == 0) return Py_NewRef(Py_None);
+    return Py_BuildValue("Onn", is_ignored ? Py_True : Py_False, (Py_ssize_t)file, (Py_ssize_t)line);
+}
+
 static PyObject *ignore_decide(PyObject *object, PyObject *arguments) {
     struct ignore_files *self = (struct ignore_files *)object;
     PyObject *asked;
@@ -110,8 +116,7 @@ static PyObject *ignore_decide(PyObject *object, PyObject *arguments) {
     end_turn(self);
     Py_DECREF(path.holder);
     if (status != GLOBSET_YES && status != GLOBSET_NO) return raise_status(status);
-    if (line == 0) return Py_NewRef(Py_None);
-    return Py_BuildValue("Onn", status == GLOBSET_YES ? Py_True : Py_False, (Py_ssize_t)file, (Py_ssize_t)line);
+    return rule_of(status == GLOBSET_YES, file, line);
 }
 
 /* Paths that one call decides about, with their bytes one after another. No array is null. */
@@ -122,14 +127,15 @@ struct many {
     size_t length;
     size_t room;
     size_t *ends;
-    uint8_t *answers;
+    /* What the library tells of each path: bytes or rules. */
+    void *told;
 };
 
 static void free_many(struct many *many) {
     Py_XDECREF(many->list);
     free(many->bytes);
     free(many->ends);
-    free(many->answers);
+    free(many->told);
 }
 
 /* Adds the bytes of path number `number`. */
@@ -150,15 +156,16 @@ static int add_path(struct many *many, size_t number, const struct path *path) {
     return 0;
 }
 
-/* Reads paths into a list of their own. Its items are looked up each time, since code of Python may find the list. */
-static int read_many(PyObject *paths, struct many *many) {
+/* Reads paths into a list of their own. Its items are looked up each time, since code of Python may find the list. What is
+ * told of a path has this size. */
+static int read_many(PyObject *paths, size_t size, struct many *many) {
     *many = (struct many){.list = refuse_one(paths) < 0 ? NULL : PySequence_List(paths), .room = BLOCK};
     if (!many->list) return -1;
     many->count = (size_t)PyList_Size(many->list);
     many->bytes = malloc(many->room);
     many->ends = malloc((many->count + 1) * sizeof *many->ends);
-    many->answers = malloc(many->count + 1);
-    if (!many->bytes || !many->ends || !many->answers) {
+    many->told = malloc((many->count + 1) * size);
+    if (!many->bytes || !many->ends || !many->told) {
         PyErr_NoMemory();
         return -1;
     }
@@ -177,55 +184,94 @@ static int read_many(PyObject *paths, struct many *many) {
     return 0;
 }
 
-/* Makes the list that is wanted of paths and their answers. */
+/* Has the library decide about paths. */
+typedef globset_status tell_many(struct ignore_files *self, struct many *many, unsigned int by);
+
+static globset_status tell_decisions(struct ignore_files *self, struct many *many, unsigned int by) {
+    return globset_raw_ignore_decide_many(&self->ignore, many->bytes, many->length, many->ends, many->count, by, many->told,
+                                          many->count);
+}
+
+static globset_status tell_rules(struct ignore_files *self, struct many *many, unsigned int by) {
+    return globset_raw_ignore_rules_many(&self->ignore, many->bytes, many->length, many->ends, many->count, by, many->told,
+                                         many->count);
+}
+
+/* Makes the list that is wanted of paths and what is told of them. */
 typedef PyObject *list_many(struct many *many);
 
 static PyObject *decisions_of(struct many *many) {
+    const uint8_t *answers = many->told;
     PyObject *of[] = {Py_None, Py_True, Py_False};
     PyObject *list = PyList_New((Py_ssize_t)many->count);
     for (size_t i = 0; list && i < many->count; i++) {
-        if (PyList_SetItem(list, (Py_ssize_t)i, Py_NewRef(of[many->answers[i]])) < 0) Py_CLEAR(list);
+        if (PyList_SetItem(list, (Py_ssize_t)i, Py_NewRef(of[answers[i]])) < 0) Py_CLEAR(list);
     }
     return list;
 }
 
 static PyObject *not_ignored_of(struct many *many) {
+    const uint8_t *answers = many->told;
     PyObject *list = PyList_New(0);
     for (size_t i = 0; list && i < many->count; i++) {
-        if (many->answers[i] == 1) continue;
+        if (answers[i] == 1) continue;
         PyObject *object = PyList_GetItem(many->list, (Py_ssize_t)i);
         if (!object || PyList_Append(list, object) < 0) Py_CLEAR(list);
     }
     return list;
 }
 
+static PyObject *rules_of(struct many *many) {
+    const globset_told_rule *rules = many->told;
+    PyObject *list = PyList_New((Py_ssize_t)many->count);
+    for (size_t i = 0; list && i < many->count; i++) {
+        PyObject *rule = rule_of(rules[i].decision == 1, rules[i].file, rules[i].line);
+        if (!rule || PyList_SetItem(list, (Py_ssize_t)i, rule) < 0) Py_CLEAR(list);
+    }
+    return list;
+}
+
+/* A question about many paths: the form of its arguments, the size of what is told of a path, and what is done. */
+struct question {
+    const char *format;
+    size_t size;
+    tell_many *tell;
+    list_many *list;
+};
+
 /* Releases the interpreter's lock while it decides. */
-static PyObject *ask_ignore_many(PyObject *object, PyObject *arguments, const char *format, list_many *list) {
+static PyObject *ask_ignore_many(PyObject *object, PyObject *arguments, const struct question *question) {
     struct ignore_files *self = (struct ignore_files *)object;
     PyObject *paths, *result = NULL;
     unsigned int by;
     struct many many;
-    if (!PyArg_ParseTuple(arguments, format, &paths, &by)) return NULL;
-    if (read_many(paths, &many) == 0) {
+    if (!PyArg_ParseTuple(arguments, question->format, &paths, &by)) return NULL;
+    if (read_many(paths, question->size, &many) == 0) {
         globset_status status;
         begin_turn(self);
         Py_BEGIN_ALLOW_THREADS
-        status = globset_raw_ignore_decide_many(&self->ignore, many.bytes, many.length, many.ends, many.count, by,
-                                                many.answers, many.count);
+        status = question->tell(self, &many, by);
         Py_END_ALLOW_THREADS
         end_turn(self);
-        result = status == GLOBSET_DONE ? list(&many) : raise_status(status);
+        result = status == GLOBSET_DONE ? question->list(&many) : raise_status(status);
     }
     free_many(&many);
     return result;
 }
 
 static PyObject *ignore_decide_many(PyObject *self, PyObject *arguments) {
-    return ask_ignore_many(self, arguments, "OI:decide_many", decisions_of);
+    static const struct question question = {"OI:decide_many", sizeof(uint8_t), tell_decisions, decisions_of};
+    return ask_ignore_many(self, arguments, &question);
+}
+
+static PyObject *ignore_rules_many(PyObject *self, PyObject *arguments) {
+    static const struct question question = {"OI:rules_many", sizeof(globset_told_rule), tell_rules, rules_of};
+    return ask_ignore_many(self, arguments, &question);
 }
 
 static PyObject *ignore_filter(PyObject *self, PyObject *arguments) {
-    return ask_ignore_many(self, arguments, "OI:filter", not_ignored_of);
+    static const struct question question = {"OI:filter", sizeof(uint8_t), tell_decisions, not_ignored_of};
+    return ask_ignore_many(self, arguments, &question);
 }
 
 /* The lines are lent until the turn ends, so they are copied before objects of Python are made of them. */

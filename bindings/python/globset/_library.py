@@ -51,6 +51,12 @@ class Indexes(ctypes.Structure):
     _fields_ = [("at", ctypes.c_void_p), ("count", ctypes.c_size_t)]
 
 
+class ToldRule(ctypes.Structure):
+    """globset_told_rule: the rule that decides about a path, and a number: 1 ignores the path, 2 keeps it, 0 is without a rule."""
+
+    _fields_ = [("file", ctypes.c_size_t), ("line", ctypes.c_size_t), ("decision", ctypes.c_uint32)]
+
+
 def _load() -> ctypes.CDLL:
     """Loads the library beside this file, or if there is none, the one that the system's loader finds."""
     beside = os.path.join(os.path.dirname(os.path.abspath(__file__)), "libglobset.so")
@@ -108,6 +114,9 @@ ignore_leave = _declare("raw_ignore_leave", _OWNED)
 ignore_decide = _declare("raw_ignore_decide", _OWNED, _BYTES, _SIZE, _NUMBER, _NUMBER, _RESULT, _RESULT)
 ignore_decide_many = _declare(
     "raw_ignore_decide_many", _OWNED, _BYTES, _SIZE, ctypes.c_void_p, _SIZE, _NUMBER, ctypes.c_void_p, _SIZE
+)
+ignore_rules_many = _declare(
+    "raw_ignore_rules_many", _OWNED, _BYTES, _SIZE, ctypes.c_void_p, _SIZE, _NUMBER, ctypes.c_void_p, _SIZE
 )
 ignore_unread_lines = _declare("raw_ignore_unread_lines", _OWNED, _SIZE, _INDEXES)
 escape = _declare("raw_escape", _BYTES, _SIZE, *_ROOM)

@@ -77,7 +77,7 @@ class _Decides:
         """Returns whether a rule ignores the path.
 
         Raises ``ValueError`` if the path ends with ``/`` and ``is_dir`` is false, or if there is no such ``by``. It takes a
-        pass over the path for each file, and for each directory that it asks about.
+        pass over the path for each file, and if a rule matches a directory above, at most such passes for each of those.
 
         >>> IgnoreRules("build/").is_ignored("build"), IgnoreRules("build/").is_ignored("build", is_dir=True)
         (False, True)
@@ -94,11 +94,7 @@ class _Decides:
         >>> IgnoreRules("*.log\\n/docs").decide("docs/index.html")
         Decision(file=0, line=2, negated=False)
         """
-        decided = self._files.decide(path, -1 if is_dir is None else int(bool(is_dir)), _number_of(by))
-        if decided is None:
-            return None
-        is_ignored, file, line = decided
-        return Decision(file, line, not is_ignored)
+        return _decision_of(self._files.decide(path, -1 if is_dir is None else int(bool(is_dir)), _number_of(by)))
 
     def decide_many(self, paths: Iterable[Path], by: By = "git") -> List[Optional[bool]]:
         """Returns for each path ``True`` if it is ignored, ``False`` if a rule keeps it, and ``None`` if no rule decides.
@@ -110,6 +106,14 @@ class _Decides:
         [True, False, None, True]
         """
         return self._files.decide_many(paths, _number_of(by))
+
+    def rules_many(self, paths: Iterable[Path], by: By = "git") -> List[Optional[Decision]]:
+        """Returns for each path the rule that decides, as ``decide`` does. It is otherwise as ``decide_many``.
+
+        >>> IgnoreRules("*.o\\n!a.o").rules_many(["b.o", "a.o", "a.c"])
+        [Decision(file=0, line=1, negated=False), Decision(file=0, line=2, negated=True), None]
+        """
+        return [_decision_of(decided) for decided in self._files.rules_many(paths, _number_of(by))]
 
     def filter(self, paths: Iterable[_AnyPath], by: By = "git") -> List[_AnyPath]:
         """Returns the paths that are not ignored, in order. It is otherwise as ``decide_many``.
@@ -242,6 +246,13 @@ class IgnoreStack(_Decides):
 
 def _files_with(ignore_case: bool) -> _binding.IgnoreFiles:
     return _binding.IgnoreFiles(_IGNORE_CASE if ignore_case else 0)
+
+
+def _decision_of(decided: Optional[Tuple[bool, int, int]]) -> Optional[Decision]:
+    if decided is None:
+        return None
+    is_ignored, file, line = decided
+    return Decision(file, line, not is_ignored)
 
 
 def _number_of(by: str) -> int:

@@ -60,6 +60,7 @@ CALLS = {
     "unreachable": lambda: unreachable(PATTERNS),
     "IgnoreRules.decide": on_ignore(lambda rules: rules.decide("src/a/b/a.py", by="nearest")),
     "IgnoreRules.decide_many": on_ignore(lambda rules: rules.decide_many(PATHS)),
+    "IgnoreRules.rules_many": on_ignore(lambda rules: rules.rules_many(PATHS)),
     "IgnoreRules.filter": on_ignore(lambda rules: rules.filter(PATHS)),
     "IgnoreRules.unread_lines": on_ignore(lambda rules: rules.unread_lines()),
     "IgnoreStack": in_walk,

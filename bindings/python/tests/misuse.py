@@ -26,7 +26,7 @@ REJECTED = ["[a", "[z-a]", "a}", "{a", "\\", "\udc80", "a\ud800"]
 PATHS = ["a.py", "src/a", "", "b", "abc", "a\0b", "é", "a/b/c/d.py", "\udcff", "\ud800", b"a.py", b"\xff\0", b"", "a" * 5000]
 MANY = ["match_many", "matches_many", "filter"]
 LINES = ["*.py", "!a.py", "src/", "/b/**", "# text", "", "[a", "a\\", "[!x]*", b"\xff", "é?\r\n"]
-IGNORE_METHODS = ["is_ignored", "decide", "decide_many", "filter", "unread_lines", "add_file", "enter", "leave"]
+IGNORE_METHODS = ["is_ignored", "decide", "decide_many", "rules_many", "filter", "unread_lines", "add_file", "enter", "leave"]
 METHODS = ["match", "matches", "matches_all", "can_match_below", *MANY, "regex", "pattern", "globs"]
 THREADS = 8
 # How deep calls within calls go.
@@ -123,6 +123,7 @@ class Misuse:
             "is_ignored": lambda: [self.path(), self.rng.choice([None, True, False]), *by],
             "decide": lambda: [self.path(), self.path(), *by],
             "decide_many": lambda: [self.paths(), *by],
+            "rules_many": lambda: [self.paths(), *by],
             "filter": lambda: [self.paths(), *by],
             "unread_lines": lambda: [self.rng.choice([0, 0, 1, 3, -1, 2**64, self.path()])] * isinstance(ignore, IgnoreStack),
             "add_file": lambda: [self.lines()],
@@ -145,7 +146,8 @@ class Misuse:
         else:
             files = globset._binding.IgnoreFiles(self.rng.randrange(3))
             arguments = [self.path() for _ in range(self.rng.randrange(4))]
-            getattr(files, self.rng.choice(["add_file", "enter", "decide", "decide_many", "filter", "unread_lines"]))(*arguments)
+            names = ["add_file", "enter", "decide", "decide_many", "rules_many", "filter", "unread_lines"]
+            getattr(files, self.rng.choice(names))(*arguments)
 
     def make(self):
         text = self.rng.choice(PATTERNS) if self.chance(0.8) else self.rng.choice([*REJECTED, self.path()])

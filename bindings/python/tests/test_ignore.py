@@ -57,6 +57,8 @@ class Rules(unittest.TestCase):
                 self.assertEqual([rules.is_ignored(path, by=by) for by in BY], [line > 0 for line in wanted])
                 for by, line in zip(BY, wanted):
                     self.assertEqual(rules.decide_many([path, path], by), [None if line == 0 else line > 0] * 2)
+                    decision = None if line == 0 else Decision(0, abs(line), line < 0)
+                    self.assertEqual(rules.rules_many([path, path], by), [decision] * 2)
                     self.assertEqual(rules.filter([path, path], by=by), [] if line > 0 else [path] * 2)
 
     def test_forms_of_a_file(self):
@@ -95,9 +97,10 @@ class Rules(unittest.TestCase):
         paths = [pathlib.Path("c/b"), "c", "a/", b"\xff"]
         self.assertEqual(rules.filter(paths), ["c"])
         self.assertEqual(rules.filter(iter(paths)), ["c"])
-        self.assertEqual((rules.filter([]), rules.decide_many(())), ([], []))
+        self.assertEqual((rules.filter([]), rules.decide_many(()), rules.rules_many(iter([]))), ([], [], []))
         self.assertEqual(rules.decide_many(["c", "b"] * 5000), [None, True] * 5000)
-        for call in [rules.filter, rules.decide_many]:
+        self.assertEqual(rules.rules_many(["c", "b"] * 5000), [None, Decision(0, 2, False)] * 5000)
+        for call in [rules.filter, rules.decide_many, rules.rules_many]:
             for paths in ["b", b"b", 7, ["b", 7]]:
                 self.assertRaises(TypeError, call, paths)
         for call in [rules.is_ignored, rules.decide]:
@@ -110,7 +113,7 @@ class Rules(unittest.TestCase):
             for call in [rules.is_ignored, rules.decide]:
                 with self.assertRaisesRegex(ValueError, "^by is 'git', 'nearest' or 'path', not "):
                     call("a", by=by)
-            for call in [rules.filter, rules.decide_many]:
+            for call in [rules.filter, rules.decide_many, rules.rules_many]:
                 with self.assertRaisesRegex(ValueError, "^by is 'git', 'nearest' or 'path', not "):
                     call(["a"], by=by)
 
@@ -152,10 +155,13 @@ class Stack(unittest.TestCase):
         self.assertFalse(stack.is_ignored("y/a.log", by="nearest"))
         stack.enter(b"z/w")
         self.assertEqual(stack.decide_many(["a.log", "a"]), [False, None])
+        self.assertEqual(stack.rules_many(["a.log", "a"]), [Decision(2, 1, True), None])
         stack.leave()
         stack.leave()
         self.assertEqual(stack.decide("top.log"), Decision(1, 1, True))
         self.assertEqual(stack.filter(["a.log", "top.log"]), ["top.log"])
+        rules = [Decision(1, 1, True), Decision(0, 1, False), Decision(0, 2, False)]
+        self.assertEqual(stack.rules_many(["top.log", "a.log", "x/y/a"]), rules)
         stack.leave()
         stack.leave()
         self.assertEqual(stack.decide("top.log"), Decision(1, 1, True))
@@ -183,6 +189,7 @@ class Stack(unittest.TestCase):
         files = globset._binding.IgnoreFiles
         for call in [lambda: files(2), lambda: files(0).decide("a", 0, 3), lambda: files(0).decide_many(["a"], 3)]:
             self.assertRaises(RuntimeError, call)
+        self.assertRaises(RuntimeError, files(0).rules_many, ["a"], 3)
         for call in [lambda: files(), lambda: files("a"), lambda: files(0).add_file("a"), lambda: files(0).unread_lines("a")]:
             self.assertRaises((TypeError, ctypes_error()), call)
 
@@ -197,6 +204,7 @@ class Stack(unittest.TestCase):
             ("ignore_leave", stack.leave),
             ("ignore_decide", lambda: stack.decide("a")),
             ("ignore_decide_many", lambda: stack.decide_many(["a"])),
+            ("ignore_rules_many", lambda: stack.rules_many(["a"])),
             ("ignore_unread_lines", lambda: stack.unread_lines(0)),
         ]:
             with self.subTest(name=name):
@@ -270,9 +278,10 @@ class Threads(unittest.TestCase):
         answers = []
         self.assertEqual(stack.decide(Path()), Decision(0, 1, False))
         self.assertEqual(stack.decide_many([Path(), "c"]), [True, None])
+        self.assertEqual(stack.rules_many([Path(), "c"]), [Decision(0, 1, False), None])
         self.assertEqual(len(stack.filter([Path(), "c", Path()])), 1)
         stack.enter(Path())
-        self.assertEqual(answers, [Decision(0, 1, False)] * 5)
+        self.assertEqual(answers, [Decision(0, 1, False)] * 6)
 
     def test_list_that_changes(self):
         rules, paths = IgnoreRules("a"), []

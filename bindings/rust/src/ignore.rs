@@ -61,9 +61,9 @@ pub struct Rule {
 
 /// A walk through directories, with the ignore files of the directory that it is in and of those above it.
 ///
-/// Time to decide is a pass over the path for each file and, unless it is [`By::Path`] that decides, such passes for each directory
-/// that the path names: so it is less for the name of an entry of the directory that the walk is in. A walk keeps the memory that it
-/// takes to decide for later calls.
+/// Time to decide is a pass over the path for each file and, if a rule matches a directory above it and it is not [`By::Path`] that
+/// decides, at most such passes for each directory that the path names. A walk keeps the memory that it takes to decide for later
+/// calls.
 ///
 /// Running out of memory ends the program in each call that allocates: in all of them except [`IgnoreStack::leave`].
 pub struct IgnoreStack {
@@ -160,11 +160,7 @@ impl IgnoreStack {
         I: IntoIterator,
         I::Item: AsRef<Path>,
     {
-        let (mut bytes, mut ends) = (Vec::new(), Vec::new());
-        for path in paths {
-            bytes.extend_from_slice(path.as_ref().as_os_str().as_bytes());
-            ends.push(bytes.len());
-        }
+        let (bytes, ends) = joined(paths);
         let answers = self.ignore.decide_many(&bytes, &ends, by.number());
         let decisions = answers.into_iter().map(|answer| match answer {
             0 => Decision::Undecided,
@@ -172,6 +168,32 @@ impl IgnoreStack {
             _ => Decision::Kept,
         });
         decisions.collect()
+    }
+
+    /// The rule that decides about each of many paths, or `None` if no rule decides, in one call of the library. The paths are as
+    /// those of [`IgnoreStack::decide_many`], and the call takes a rule in place of each byte.
+    ///
+    /// ```
+    /// use globset::ignore::{By, IgnoreStack, Rule};
+    ///
+    /// let mut ignore = IgnoreStack::new();
+    /// ignore.add_file("out/\n!a.o\n");
+    /// let rules = ignore.rules_many(["out/", "a.o", "a.c"], By::Git);
+    /// let (out, kept) = (Rule { file: 0, line: 1, is_ignored: true }, Rule { file: 0, line: 2, is_ignored: false });
+    /// assert_eq!(rules, [Some(out), Some(kept), None]);
+    /// ```
+    pub fn rules_many<I>(&mut self, paths: I, by: By) -> Vec<Option<Rule>>
+    where
+        I: IntoIterator,
+        I::Item: AsRef<Path>,
+    {
+        let (bytes, ends) = joined(paths);
+        let told = self.ignore.rules_many(&bytes, &ends, by.number());
+        let rules = told.into_iter().map(|told| {
+            let rule = Rule { file: told.file, line: told.line, is_ignored: told.decision == 1 };
+            (told.decision != 0).then_some(rule)
+        });
+        rules.collect()
     }
 
     /// How many files are there: those of the directory that the walk is in and of all above it.
@@ -193,6 +215,20 @@ impl IgnoreStack {
     pub fn unread_lines(&mut self, file: usize) -> Option<Vec<usize>> {
         self.ignore.unread_lines(file)
     }
+}
+
+/// The bytes of paths one after another, and the end of each.
+fn joined<I>(paths: I) -> (Vec<u8>, Vec<usize>)
+where
+    I: IntoIterator,
+    I::Item: AsRef<Path>,
+{
+    let (mut bytes, mut ends) = (Vec::new(), Vec::new());
+    for path in paths {
+        bytes.extend_from_slice(path.as_ref().as_os_str().as_bytes());
+        ends.push(bytes.len());
+    }
+    (bytes, ends)
 }
 
 impl Default for IgnoreStack {

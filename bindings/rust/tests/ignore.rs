@@ -125,13 +125,16 @@ fn case_is_ignored_as_git_does() {
 
 #[test]
 fn many_paths_are_decided_in_one_call() {
-    let mut stack = stack("out/\n!out/a\n*.o\n!k.o\n");
+    let mut stack = stack("out/\n!out/a\n*.o\n");
+    stack.add_file("# kept\n!k.o\n");
     let paths = ["out", "out/", "out/a", "b.o", "k.o", "", "x/out/"];
     for by in [By::Git, By::Nearest, By::Path] {
-        let decisions = stack.decide_many(paths, by);
-        for (path, decision) in paths.into_iter().zip(decisions) {
+        let decisions = stack.decide_many(paths, by).into_iter().zip(stack.rules_many(paths, by));
+        for (path, (decision, rule)) in paths.into_iter().zip(decisions) {
             let (name, is_dir) = path.strip_suffix('/').map_or((path, false), |name| (name, true));
-            let wanted = match stack.decide(name, is_dir, by) {
+            let decided = stack.decide(name, is_dir, by);
+            assert_eq!(rule, decided, "{path} {by:?}");
+            let wanted = match decided {
                 None => Decision::Undecided,
                 Some(Rule { is_ignored: true, .. }) => Decision::Ignored,
                 Some(Rule { is_ignored: false, .. }) => Decision::Kept,
@@ -140,6 +143,7 @@ fn many_paths_are_decided_in_one_call() {
         }
     }
     assert_eq!(stack.decide_many([""; 0], By::Git), []);
+    assert_eq!(stack.rules_many([""; 0], By::Git), []);
 }
 
 #[test]

@@ -6,6 +6,7 @@ use Rattle.git_ignore.specs.declared.decision.DecideBy.{DecideBy}
 use Rattle.git_ignore.specs.declared.decision.DecideBy.TheVariants.{Git, Nearest, PathAlone}
 use Rattle.git_ignore.specs.declared.decision.DecidingRule.{DecidingRule}
 use Rattle.globset_c.specs.Paths.{paths_from}
+use Rattle.globset_c.specs.declared.ignored_many.ToldRule.{ToldRule}
 
 -- each bit stands for an option
 abbrev pub AreIgnoreOptions : ℕ → Type 0
@@ -47,14 +48,26 @@ abbrev pub decision_byte : Option DecidingRule → ℕ
 decision_byte None = 0
 decision_byte (Some rule) = if rule.is_negated then 2 else 1
 
+-- the rule's file, its line and the decision
+abbrev pub told_rule : Option DecidingRule → ToldRule
+told_rule rule = record { file = file_told rule; line = line_told rule; decision = decision_byte rule }
+
 -- the path ends with `/`
 abbrev pub ends_with_slash : List ℕ → Bool
 ends_with_slash path = bytes_eq (drop (length path - 1) path) (47 ∷ [])
 
--- The decision about one of many paths. One that ends with `/` is of a folder, and the `/` does not belong to it.
-abbrev pub decision_for : StackValue → ℕ → List ℕ → ℕ
-decision_for s by path = decision_byte (if ends_with_slash path then stack_rule s (decide_by by) (take (length path - 1) path) true else stack_rule s (decide_by by) path false)
+-- The rule that decides about one of many paths. One that ends with `/` is of a folder, and the `/` does not belong to it.
+abbrev pub path_rule : StackValue → ℕ → List ℕ → Option DecidingRule
+path_rule s by path = if ends_with_slash path then stack_rule s (decide_by by) (take (length path - 1) path) true else stack_rule s (decide_by by) path false
+
+-- the rule that decides about each path
+abbrev pub path_rules : StackValue → ℕ → List ℕ → ℕ → List ℕ → List (Option DecidingRule)
+path_rules s by bytes start ends = map (path_rule s by) (paths_from bytes start ends)
 
 -- the decision about each path
 abbrev pub decisions_for : StackValue → ℕ → List ℕ → ℕ → List ℕ → List ℕ
-decisions_for s by bytes start ends = map (decision_for s by) (paths_from bytes start ends)
+decisions_for s by bytes start ends = map decision_byte (path_rules s by bytes start ends)
+
+-- the rule that decides about each path, as C sees it
+abbrev pub rules_for : StackValue → ℕ → List ℕ → ℕ → List ℕ → List ToldRule
+rules_for s by bytes start ends = map told_rule (path_rules s by bytes start ends)

@@ -33,8 +33,6 @@ mod searchers;
 mod set_of_globs;
 mod sets;
 mod status;
-#[cfg(test)]
-mod tests;
 mod text;
 mod version;
 mod works;

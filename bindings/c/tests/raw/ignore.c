@@ -77,6 +77,29 @@ static void many(void) {
     raw_ignore_free(ignore);
 }
 
+static void rules_many(void) {
+    raw_ignore ignore = ignore_of("out/\n!out/a\n*.o\n", 0);
+    static const size_t ends[4] = {3, 7, 12, 15}, descending[2] = {3, 2}, beyond[1] = {16},
+                        lines[2][4] = {{0, 1, 1, 4}, {0, 1, 2, 4}};
+    static const uint32_t decisions[2][4] = {{0, 1, 1, 2}, {0, 1, 2, 2}};
+    static const char paths[] = "outout/out/ab.o";
+    globset_told_rule rules[4] = {{7, 7, 7}, {7, 7, 7}, {7, 7, 7}, {7, 7, 7}};
+    CHECK(raw_ignore_rules_many(&ignore, TEXT(paths), descending, 2, 0, rules) == GLOBSET_BAD_ENDS);
+    CHECK(raw_ignore_rules_many(&ignore, TEXT(paths), beyond, 1, 0, rules) == GLOBSET_BAD_ENDS);
+    CHECK(raw_ignore_rules_many(&ignore, TEXT(paths), beyond, 1, 3, rules) == GLOBSET_UNKNOWN_OPTION);
+    CHECK(globset_raw_ignore_rules_many(&ignore.object, raw_bytes("a"), 1, raw_no_indexes, 1, 0, rules, 0) ==
+          GLOBSET_BAD_ENDS);
+    for (int i = 0; i < 4; i++) CHECK(rules[i].file == 7 && rules[i].line == 7 && rules[i].decision == 7);
+    CHECK(raw_ignore_add_file(&ignore, TEXT("#\n\n\n!b.o\n")) == GLOBSET_DONE);
+    for (uint32_t by = 0; by < 2; by++) {
+        CHECK(raw_ignore_rules_many(&ignore, TEXT(paths), ends, 4, by, rules) == GLOBSET_DONE);
+        for (int i = 0; i < 4; i++)
+            CHECK(rules[i].file == (i == 3) && rules[i].line == lines[by][i] && rules[i].decision == decisions[by][i]);
+    }
+    CHECK(raw_ignore_rules_many(&ignore, NULL, 0, NULL, 0, 0, rules) == GLOBSET_DONE && rules[3].line == 4);
+    raw_ignore_free(ignore);
+}
+
 static void unread_lines(void) {
     raw_ignore ignore = ignore_of("[a\n#[\n\nb\\\n", 0);
     globset_indexes lines;
@@ -98,6 +121,7 @@ static void refused(void) {
     raw_set ignore_as_set = {ignore.object};
     globset_indexes lines;
     uint8_t answer = 7;
+    globset_told_rule rule = {7, 7, 7};
     const size_t end = 1, wrong_end = 2;
     const void *at = ignore.object.at;
     for (uint32_t wrong = 2; wrong != 0; wrong *= 2)
@@ -112,6 +136,8 @@ static void refused(void) {
     CHECK(raw_ignore_leave(&glob_as_ignore) == GLOBSET_WRONG_KIND);
     CHECK(raw_ignore_decide_many(&glob_as_ignore, TEXT("a"), &wrong_end, 1, 0, &answer) == GLOBSET_BAD_ENDS);
     CHECK(raw_ignore_decide_many(&glob_as_ignore, TEXT("a"), &end, 1, 0, &answer) == GLOBSET_WRONG_KIND && answer == 7);
+    CHECK(raw_ignore_rules_many(&glob_as_ignore, TEXT("a"), &wrong_end, 1, 0, &rule) == GLOBSET_BAD_ENDS);
+    CHECK(raw_ignore_rules_many(&glob_as_ignore, TEXT("a"), &end, 1, 0, &rule) == GLOBSET_WRONG_KIND && rule.line == 7);
     CHECK(raw_ignore_unread_lines(&glob_as_ignore, 0, &lines) == GLOBSET_WRONG_KIND && lines.count == 0);
     CHECK(glob_as_ignore.object.at == glob.object.at);
     CHECK(raw_searcher_is_match(&ignore_as_searcher, TEXT("a")) == GLOBSET_WRONG_KIND);
@@ -125,6 +151,7 @@ int main(void) {
     decisions();
     walk();
     many();
+    rules_many();
     unread_lines();
     refused();
     puts("ignore: passed");

@@ -170,6 +170,7 @@ static void try_relations(void) {
 static void try_ignore(void) {
     const size_t ends[] = {2, 6};
     uint8_t answers[2] = {7, 7};
+    globset_told_rule rules[2] = {{7, 7, 7}, {7, 7, 7}};
     raw_ignore ignore = {{&ignore}};
     globset_indexes lines;
     size_t file = 7, line = 7;
@@ -186,6 +187,9 @@ static void try_ignore(void) {
     TRY(raw_ignore_decide_many(&ignore, TEXT("about/"), ends, 2, 0, answers), GLOBSET_DONE,
         CHECK(answers[0] == 7 && answers[1] == 7));
     CHECK(answers[0] == 2 && answers[1] == 1);
+    TRY(raw_ignore_rules_many(&ignore, TEXT("about/"), ends, 2, 0, rules), GLOBSET_DONE,
+        CHECK(rules[0].line == 7 && rules[1].line == 7));
+    CHECK(rules[0].line == 3 && rules[1].line == 4);
     left = 0;
     CHECK(raw_ignore_unread_lines(&ignore, 0, &lines) == GLOBSET_DONE && lines.count == 1 && lines.at[0] == 2);
     CHECK(raw_ignore_leave(&ignore) == GLOBSET_DONE);

@@ -300,6 +300,13 @@ static inline globset_status raw_ignore_decide_many(raw_ignore *ignore, const vo
                                           count, by, answers, count);
 }
 
+static inline globset_status raw_ignore_rules_many(raw_ignore *ignore, const void *paths, size_t paths_len,
+                                                   const size_t *ends, size_t count, uint32_t by,
+                                                   globset_told_rule *rules) {
+    return globset_raw_ignore_rules_many(&ignore->object, raw_bytes(paths), paths_len, ends ? ends : raw_no_indexes,
+                                         count, by, rules, count);
+}
+
 /* Reads lines into a place that had something else before. */
 static inline globset_status raw_ignore_unread_lines(raw_ignore *ignore, size_t file, globset_indexes *lines) {
     lines->at = raw_no_indexes;

@@ -34,6 +34,16 @@ extern "C" {
         answers: *mut u8,
         answers_len: usize,
     ) -> Status;
+    fn globset_raw_ignore_rules_many(
+        ignore: *mut Owned,
+        paths: *const u8,
+        paths_len: usize,
+        ends: *const usize,
+        ends_len: usize,
+        by: u32,
+        rules: *mut ToldRule,
+        rules_len: usize,
+    ) -> Status;
     fn globset_raw_ignore_unread_lines(ignore: *mut Owned, file: usize, lines: *mut Indexes) -> Status;
 }
 
@@ -43,6 +53,16 @@ pub(crate) struct Decided {
     pub(crate) is_ignored: bool,
     pub(crate) file: usize,
     pub(crate) line: usize,
+}
+
+/// What the library tells of one of many paths: the file and the line of the rule that decides, and a number as of
+/// [`Ignore::decide_many`]. The line is 0 if no rule decides.
+#[derive(Clone, Copy)]
+#[repr(C)]
+pub(crate) struct ToldRule {
+    pub(crate) file: usize,
+    pub(crate) line: usize,
+    pub(crate) decision: u32,
 }
 
 /// A walk of the library, which "has the ignore files of directories".
@@ -106,6 +126,25 @@ impl Ignore {
             )
         });
         answers
+    }
+
+    /// The rule that decides about each path, of paths as in [`Ignore::decide_many`].
+    pub(crate) fn rules_many(&mut self, paths: &[u8], ends: &[usize], by: u32) -> Vec<ToldRule> {
+        let mut rules = vec![ToldRule { file: 0, line: 0, decision: 0 }; ends.len()];
+        // SAFETY: "Finds the rules that decide about many paths".
+        done(unsafe {
+            globset_raw_ignore_rules_many(
+                &mut self.0,
+                paths.as_ptr(),
+                paths.len(),
+                ends.as_ptr(),
+                ends.len(),
+                by,
+                rules.as_mut_ptr(),
+                rules.len(),
+            )
+        });
+        rules
     }
 
     /// The lines of a file that git cannot read, or `None` if there is no file of this index.
