@@ -1,20 +1,14 @@
 -- The paths that a question is about.
-use Rattle.std.specs.Prelude.{◌==◌, ◌&&◌, ℕ, Bool, not, List, [], ◌∷◌, IsTrue, if◌then◌else◌}
-use Rattle.std.specs.List.{list_all}
+use Rattle.std.specs.Prelude.{◌==◌, ◌&&◌, ℕ, Bool, not, List, [], ◌∷◌, IsTrue}
+use Rattle.std.specs.List.{list_all, slice_split}
 use Rattle.std.specs.Str.{bytes_eq}
 use Rattle.bit_sets.specs.Texts.{AllBytes}
 use Rattle.glob_relations.specs.declared.domain.Domain.{Domain}
 use Rattle.glob_relations.specs.declared.domain.Domain.TheVariants.{AllPaths, RelativePaths}
 
--- the components, with a byte more at the start of the first
-abbrev pub with_byte : ℕ → List (List ℕ) → List (List ℕ)
-with_byte b [] = (b ∷ []) ∷ []
-with_byte b (c ∷ cs) = (b ∷ c) ∷ cs
-
 -- the components of a path: what stands before, between and after each `/`
 abbrev pub components : List ℕ → List (List ℕ)
-components [] = [] ∷ []
-components (b ∷ bs) = if b == 47 then [] ∷ components bs else with_byte b (components bs)
+components path = slice_split (λ b. b == 47) path
 
 -- a component that a file system has: it is not empty, `.` or `..`, and has no NUL
 abbrev pub is_component : List ℕ → Bool

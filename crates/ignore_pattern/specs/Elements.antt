@@ -70,14 +70,11 @@ elements_match ignore_case (e ∷ es) b = some_cut (λ front back. element_match
 
 -- ---- reading
 
--- The place of the byte after a plain byte. A byte that follows only plain bytes is at the start.
+-- The place of the byte after a plain byte. A byte that follows only plain bytes is at the start. An escaped byte is not plain, so
+-- what follows it is as after a plain byte elsewhere.
 abbrev pub place_after : Place → ℕ → Place
 place_after Start c = Start
 place_after _ c = if c == 47 then AfterSlash else Elsewhere
-
--- and after an escaped byte, which is not plain
-abbrev pub place_after_escaped : ℕ → Place
-place_after_escaped c = if c == 47 then AfterSlash else Elsewhere
 
 -- stars at this place can stand for folders
 abbrev pub may_cross : Place → Bool
@@ -118,7 +115,7 @@ class_at (c ∷ cs) = if c == 33 || c == 94 then class_after 1 true cs else clas
 -- the element after a `\`: the next byte, whatever it is, and there has to be one
 abbrev pub escaped_at : List ℕ → Option ElementAt
 escaped_at [] = None
-escaped_at (c ∷ cs) = Some (at (Escaped c) 1 (place_after_escaped c))
+escaped_at (c ∷ cs) = Some (at (Escaped c) 1 (place_after Elsewhere c))
 
 -- The element at `c`, followed by `cs`. Stars stand for folders only in a pattern that is matched against whole paths.
 unfoldable pub element_at : Bool → Place → ℕ → List ℕ → Option ElementAt

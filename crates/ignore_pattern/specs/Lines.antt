@@ -1,6 +1,7 @@
 -- The lines of an ignore file, and the part of a line that its pattern is read from. Files and lines are lists of bytes.
 use Rattle.std.specs.Prelude.{ℕ, not, ◌==◌, List, [], ◌∷◌, take, drop, take_while, if◌then◌else◌}
 use Rattle.std.specs.Str.{bytes_eq}
+use Rattle.std.specs.List.{slice_split}
 use Rattle.ignore_pattern.specs.Ends.{without_last}
 
 -- ---- lines
@@ -9,16 +10,10 @@ use Rattle.ignore_pattern.specs.Ends.{without_last}
 abbrev pub without_byte_order_mark : List ℕ → List ℕ
 without_byte_order_mark bytes = if bytes_eq (take 3 bytes) (0xEF ∷ 0xBB ∷ 0xBF ∷ []) then drop 3 bytes else bytes
 
--- a byte at the start of the first line
-abbrev pub onto_first : ℕ → List (List ℕ) → List (List ℕ)
-onto_first c [] = (c ∷ []) ∷ []
-onto_first c (line ∷ lines) = (c ∷ line) ∷ lines
-
 -- The lines of some bytes: the parts before, between and after the line feeds. The last is empty if the bytes end with a line
 -- feed.
 unfoldable pub lines_of : List ℕ → List (List ℕ)
-lines_of [] = [] ∷ []
-lines_of (c ∷ cs) = if c == 10 then [] ∷ lines_of cs else onto_first c (lines_of cs)
+lines_of bytes = slice_split (λ c. c == 10) bytes
 
 -- the lines of an ignore file
 abbrev pub file_lines : List ℕ → List (List ℕ)

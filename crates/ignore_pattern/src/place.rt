@@ -1,7 +1,8 @@
 //! Where a byte of a pattern stands.
 
 ghost use Rattle.std.specs.Prelude.{◌≡◌};
-ghost use Rattle.ignore_pattern.specs.Elements.{place_after, place_after_escaped, may_cross};
+ghost use Rattle.ignore_pattern.specs.Elements.{place_after, may_cross};
+ghost use Rattle.ignore_pattern.specs.declared.place.Place.TheVariants.{Elsewhere};
 
 /// Where a byte of a pattern stands.
 #[derive(Clone, Copy)]
@@ -26,7 +27,7 @@ impl Place {
 
     /// Returns the place of the byte after an escaped byte.
     pub fn after_escaped(c: u8) -> Place
-        ensures { result ≡ place_after_escaped c }
+        ensures { result ≡ place_after Elsewhere c }
     {
         if c == b'/' {
             Place::AfterSlash

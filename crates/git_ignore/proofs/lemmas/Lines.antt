@@ -1,9 +1,10 @@
 -- The lines of bytes, as a search for line feeds finds them.
 use Rattle.std.proofs.Common.{◌≡◌, ℕ, zero, suc, ◌+◌, ◌-◌, ◌<◌, List, [], ◌∷◌, ◌++◌, take, drop, Bool, true, false, refl, ap, sym, ◌∙◌, arith, append-nil, append_assoc, subst}
 use Rattle.std.specs.Prelude.{◌==◌, ◌&&◌, not, Option, Some, None, is_none, if◌then◌else◌, slice_get}
+use Rattle.std.specs.List.{onto_first}
 use Rattle.std.specs.Option.{option_map}
 use Rattle.memchr.specs.Find.{IsFirstByte, is_byte}
-use Rattle.ignore_pattern.specs.Lines.{line_text, lines_of, onto_first, without_byte_order_mark}
+use Rattle.ignore_pattern.specs.Lines.{line_text, lines_of, without_byte_order_mark}
 use Rattle.ignore_pattern.specs.Patterns.{Pattern, pattern_of_line}
 use Rattle.git_ignore.specs.Rules.{Rule, is_unread, line_at, line_text_at, rules_from, unread_from, unread_lines_of}
 use Rattle.git_ignore.specs.declared.entry.RuleEntry.{RuleEntry}

@@ -2,9 +2,9 @@
 use Rattle.std.proofs.Common.{◌≡◌, ℕ, Bool, true, false, ◌&&◌, List, [], ◌∷◌, IsTrue, refl, ap, sym, ◌∙◌}
 use Rattle.std.specs.Prelude.{◌==◌, ◌↔◌, not, Option, Some, None, if◌then◌else◌}
 use Rattle.std.proofs.lemmas.Bool.{eqb-true}
-use Rattle.std.specs.List.{list_all}
+use Rattle.std.specs.List.{list_all, onto_first}
 use Rattle.bit_sets.specs.Texts.{AllBytes}
-use Rattle.glob_relations.specs.Domains.{with_byte, components, is_component, IsIn}
+use Rattle.glob_relations.specs.Domains.{components, is_component, IsIn}
 use Rattle.glob_relations.specs.declared.domain.Domain.{Domain}
 use Rattle.glob_relations.specs.declared.domain.Domain.TheVariants.{AllPaths, RelativePaths}
 use Rattle.glob_relations.specs.declared.domain.Place.{Place}
@@ -67,7 +67,7 @@ and_true : (p : Bool) → (p && true) ≡ p
 and_true true = refl
 and_true false = refl
 
-read_on : (p : Place) (b : ℕ) (cs : List (List ℕ)) → (p ≡ Anywhere → ⊥) → (b == 47) ≡ false → all_fit (Some p) (with_byte b cs) ≡ all_fit (place_after p b) cs
+read_on : (p : Place) (b : ℕ) (cs : List (List ℕ)) → (p ≡ Anywhere → ⊥) → (b == 47) ≡ false → all_fit (Some p) (onto_first b cs) ≡ all_fit (place_after p b) cs
 read_on p b [] bound other = and_true (fits p (b ∷ [])) ∙ fits_more p b [] bound other
 read_on p b (c ∷ cs) bound other = ap (λ z. z && list_all is_component cs) (fits_more p b c bound other)
 
@@ -75,11 +75,11 @@ all_start : (y : List ℕ) → list_all is_component (components y) ≡ all_fit 
 all_start [] = refl
 all_start (b ∷ bs) = by (b == 47)
   where
-    read : (cs : List (List ℕ)) → list_all is_component (with_byte b cs) ≡ all_fit (Some Start) (with_byte b cs)
+    read : (cs : List (List ℕ)) → list_all is_component (onto_first b cs) ≡ all_fit (Some Start) (onto_first b cs)
     read [] = refl
     read (c ∷ cs) = refl
 
-    by : (z : Bool) → list_all is_component (if z then [] ∷ components bs else with_byte b (components bs)) ≡ all_fit (Some Start) (if z then [] ∷ components bs else with_byte b (components bs))
+    by : (z : Bool) → list_all is_component (if z then [] ∷ components bs else onto_first b (components bs)) ≡ all_fit (Some Start) (if z then [] ∷ components bs else onto_first b (components bs))
     by true = refl
     by false = read (components bs)
 
@@ -136,7 +136,7 @@ ends_are p (b ∷ bs) bound = by (λ q h. ends_are q bs h) (b == 47) refl
     by : Again bs → (z : Bool) → (b == 47) ≡ z → ends_in (place_after p b) bs ≡ all_fit (Some p) (components (b ∷ bs))
     by again true is = rw (eqb-true b 47 is) (slash again p bound)
     by again false other =
-        let read : components (b ∷ bs) ≡ with_byte b (components bs) = rw other refl in
+        let read : components (b ∷ bs) ≡ onto_first b (components bs) = rw other refl in
         later again (place_after p b) refl ∙ sym (read_on p b (components bs) bound other) ∙ sym (ap (all_fit (Some p)) read)
 
 anywhere : (y : List ℕ) → ends_in (Some Anywhere) y ≡ true
