@@ -1,13 +1,13 @@
 -- Rules of an ignore file that never decide. Each rule is given by its pattern, in the order of the lines, and named by its index.
-use Rattle.std.specs.Prelude.{◌≡◌, ◌≢◌, ℕ, ◌<◌, Bool, not, ◌&&◌, ◌||◌, List, [], ◌∷◌, length, Contains, Some, slice_get, IsTrue}
+use Rattle.std.specs.Prelude.{◌≡◌, ◌≢◌, ℕ, ◌<◌, Bool, true, not, ◌&&◌, ◌||◌, List, [], ◌∷◌, ◌++◌, length, Contains, Some, slice_get, IsTrue, IsFalse}
 use Rattle.ignore_pattern.specs.Patterns.{Pattern, pattern_matches}
 use Rattle.glob_relations.specs.Domains.{IsIn}
 use Rattle.glob_relations.specs.Patterns.{IsPatternCovered, patterns_at, TellsPatternCovering}
 use Rattle.glob_relations.specs.Shortest.{IsShortest}
 use Rattle.glob_relations.specs.declared.domain.Domain.{Domain}
 use Rattle.glob_relations.specs.declared.relations.Coverage.TheVariants.{Unknown}
-use Rattle.glob_relations.specs.declared.unused.Reachability.{Reachability}
-use Rattle.glob_relations.specs.declared.unused.Reachability.TheVariants.{Decides as DecidesFor, Never, Unknown as Undecided}
+use Rattle.glob_relations.specs.declared.rules.RuleReachability.{RuleReachability}
+use Rattle.glob_relations.specs.declared.rules.RuleReachability.TheVariants.{Decides as DecidesFor, Never, Hidden, Unknown as Undecided}
 
 -- The rule applies to the path, of a folder or of something else: it matches the path, which has to be a folder if the rule is
 -- for folders alone.
@@ -21,8 +21,26 @@ DecidesAlone ignore_case ps i p path is_folder = IsTrue (applies ignore_case p p
     × ((k : ℕ) (q : Pattern) → i < k → slice_get ps k ≡ Some q → IsTrue (applies ignore_case q path is_folder) → ⊥)
 
 -- the path is in the domain, and the rule decides about it alone, if it is that of a folder, or if it is that of something else
-abbrev pub IsDecided : Bool → List Pattern → ℕ → Pattern → Domain → List ℕ → Type 0
-IsDecided ignore_case ps i p domain path = IsIn domain path × ((is_folder : Bool) × DecidesAlone ignore_case ps i p path is_folder)
+abbrev pub IsDecidedAlone : Bool → List Pattern → ℕ → Pattern → Domain → List ℕ → Type 0
+IsDecidedAlone ignore_case ps i p domain path = IsIn domain path × ((is_folder : Bool) × DecidesAlone ignore_case ps i p path is_folder)
+
+-- The rule of the index k ignores the folder, whatever the folders above it: it decides about it alone, and is not negated.
+abbrev pub IgnoresFolder : Bool → List Pattern → List ℕ → ℕ → Type 0
+IgnoresFolder ignore_case ps folder k = (q : Pattern) × (slice_get ps k ≡ Some q) × IsFalse q.negated × DecidesAlone ignore_case ps k q folder true
+
+-- The path lies below a folder that the rule of the index k ignores. Folders are named without a `/` at their end.
+abbrev pub IsHiddenBy : Bool → List Pattern → List ℕ → ℕ → Type 0
+IsHiddenBy ignore_case ps path k = (folder : List ℕ) × (rest : List ℕ) × (path ≡ folder ++ 47 ∷ rest) × IgnoresFolder ignore_case ps folder k
+
+-- The path lies below an ignored folder: then no rule that applies to the path decides about it.
+abbrev pub IsHidden : Bool → List Pattern → List ℕ → Type 0
+IsHidden ignore_case ps path = (k : ℕ) × IsHiddenBy ignore_case ps path k
+
+-- The rule decides about some paths alone, and each of them lies below an ignored folder. The rule of the index k ignores a folder
+-- above a shortest one.
+pub record IsRuleHidden (ignore_case : Bool) (ps : List Pattern) (i : ℕ) (p : Pattern) (domain : Domain) (k : ℕ) : Type 0 where
+  pub each : (path : List ℕ) → IsDecidedAlone ignore_case ps i p domain path → IsHidden ignore_case ps path
+  pub shortest : (path : List ℕ) × IsShortest (IsDecidedAlone ignore_case ps i p domain) path × IsHiddenBy ignore_case ps path k
 
 -- the rule of the index k comes later, and applies to folders and to others wherever the rule of the index i does
 abbrev pub IsRival : List Pattern → ℕ → Pattern → ℕ → Type 0
@@ -31,15 +49,17 @@ IsRival ps i p k = (i < k) × ((q : Pattern) × (slice_get ps k ≡ Some q) × I
 -- The rule never decides: the rules at the indexes of the set are its rivals, and cover it. Without any of them they do not cover
 -- it. The set has several indexes only if no rival covers it alone.
 pub record NeverDecides (ignore_case : Bool) (ps : List Pattern) (i : ℕ) (p : Pattern) (domain : Domain) (set : List ℕ) : Type 0 where
-  pub never : (path : List ℕ) → IsDecided ignore_case ps i p domain path → ⊥
+  pub never : (path : List ℕ) → IsDecidedAlone ignore_case ps i p domain path → ⊥
   pub within : (k : ℕ) → Contains set k → IsRival ps i p k
   pub covers : IsPatternCovered ignore_case p (patterns_at ps set) domain
   pub least : (k : ℕ) → Contains set k → (rest : List ℕ) → ((j : ℕ) → Contains rest j → Contains set j × (j ≢ k)) → IsPatternCovered ignore_case p (patterns_at ps rest) domain → ⊥
   pub single : 1 < length set → (k : ℕ) → IsRival ps i p k → IsPatternCovered ignore_case p (patterns_at ps (k ∷ [])) domain → ⊥
 
 -- The answer is right: the path is a shortest path about which the rule decides alone; or the rule never decides, and the set is a
--- least cover by rivals; or paths lead to more than `limit` different rows of an automaton for the rule and some of its rivals.
-abbrev pub TellsRule : Bool → List Pattern → ℕ → Pattern → Domain → ℕ → Reachability → Type 0
-TellsRule ignore_case ps i p domain limit (DecidesFor path) = IsShortest (IsDecided ignore_case ps i p domain) path.items
+-- least cover by rivals; or the rule is hidden; or paths lead to more than `limit` different rows of an automaton for the rule and
+-- some of its rivals.
+abbrev pub TellsRule : Bool → List Pattern → ℕ → Pattern → Domain → ℕ → RuleReachability → Type 0
+TellsRule ignore_case ps i p domain limit (DecidesFor path) = IsShortest (IsDecidedAlone ignore_case ps i p domain) path.items
 TellsRule ignore_case ps i p domain limit (Never set) = NeverDecides ignore_case ps i p domain set.items
+TellsRule ignore_case ps i p domain limit (Hidden k) = IsRuleHidden ignore_case ps i p domain k
 TellsRule ignore_case ps i p domain limit Undecided = (by : List ℕ) × ((k : ℕ) → Contains by k → IsRival ps i p k) × TellsPatternCovering ignore_case p (patterns_at ps by) domain limit Unknown

@@ -33,7 +33,7 @@ mod unused;
 pub use domain::Domain;
 pub use patterns::covering_pattern;
 pub use relations::{Coverage, Intersection, covering, overlap};
-pub use rules::unreachable_rules;
+pub use rules::{RuleReachability, unreachable_rules};
 pub use unused::{Decides, Reachability, unreachable};
 
 #[cfg(test)]

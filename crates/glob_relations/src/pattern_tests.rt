@@ -1,7 +1,7 @@
 //! What no clause says about patterns of ignore files: that calls succeed, and which answers they give where a limit is large
 //! enough.
 
-use crate::{Coverage, Domain, Reachability, covering_pattern, unreachable_rules};
+use crate::{Coverage, Domain, RuleReachability, covering_pattern, unreachable_rules};
 use ignore_pattern::{IgnorePattern, pattern_of_line};
 use std::alloc::{AllocError, Global};
 
@@ -72,10 +72,10 @@ fn patterns_cover(rt: HostRuntime) -> Result<(), AllocError> {
     Ok(())
 }
 
-fn is_as_told(told: &Reachability, wanted: &Option<&[usize]>) -> bool {
+fn is_as_told(told: &RuleReachability, wanted: &Option<&[usize]>) -> bool {
     match (told, wanted) {
-        (Reachability::Decides(_), None) => true,
-        (Reachability::Never(set), Some(wanted)) => set.as_slice() == *wanted,
+        (RuleReachability::Decides(_), None) => true,
+        (RuleReachability::Never(set), Some(wanted)) => set.as_slice() == *wanted,
         _ => false,
     }
 }
@@ -95,7 +95,7 @@ fn rules_never_decide(rt: HostRuntime) -> Result<(), AllocError> {
     assert!(rt;
         matches!(
             told.as_slice(),
-            [Reachability::Unknown, Reachability::Unknown]
+            [RuleReachability::Unknown, RuleReachability::Unknown]
         )
     );
     Ok(())

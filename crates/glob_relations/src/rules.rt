@@ -21,6 +21,22 @@ use byte_nfa::Nfa;
 use ignore_pattern::IgnorePattern;
 use std::alloc::{AllocError, Global};
 
+/// Whether a rule of an ignore file ever decides by git's rule.
+#[derive(Drop)]
+pub enum RuleReachability {
+    /// A shortest path about which the rule decides: it applies to it, no later rule does, and no folder above the path is
+    /// ignored.
+    Decides(Vec<u8>),
+    /// It never decides: later rules of these indexes cover it. None can be left out. It is one index if one of them covers the rule
+    /// alone, and none if the rule matches no path of the domain.
+    Never(Vec<usize>),
+    /// It never decides: each path about which it decides alone lies below an ignored folder. The rule of this index ignores a folder
+    /// above one of these paths, a shortest one.
+    Hidden(usize),
+    /// There are more rows than the limit.
+    Unknown,
+}
+
 /// Returns for each rule of an ignore file, given by its pattern in the order of the lines, whether it ever decides about a path
 /// of a domain alone, and otherwise which later rules cover it.
 ///
@@ -40,10 +56,10 @@ pub fn unreachable_rules(
     ignore_case: bool,
     domain: Domain,
     limit: usize,
-) -> Result<Vec<Reachability>, AllocError>
+) -> Result<Vec<RuleReachability>, AllocError>
     ensures len { IfOk result (λ all. length all.items ≡ length patterns.now) }
     ensures each { IfOk result
-        (λ all. (i : ℕ) (p : Pattern) (told : Reachability)
+        (λ all. (i : ℕ) (p : Pattern) (told : RuleReachability)
         → slice_get patterns.now i ≡ Some p → slice_get all.items i ≡ Some told
         → TellsRule ignore_case patterns.now i p domain limit told) }
 {
@@ -64,7 +80,7 @@ fn rule_reachability(
     ignore_case: bool,
     domain: Domain,
     limit: usize,
-) -> Result<Reachability, AllocError>
+) -> Result<RuleReachability, AllocError>
     requires within { i < length patterns.now }
     requires finds { FindsEach ignore_case patterns.now automaton.now }
     ensures { IfOk result
@@ -73,7 +89,7 @@ fn rule_reachability(
 {
     let pattern = &patterns[i];
     let others = rivals(alloc, pattern, patterns, i)?;
-    reachability_among(
+    let alone = reachability_among(
         alloc,
         pattern,
         patterns,
@@ -82,7 +98,12 @@ fn rule_reachability(
         ignore_case,
         domain,
         limit,
-    )
+    )?;
+    match alone {
+        Reachability::Decides(path) => Ok(RuleReachability::Decides(path)),
+        Reachability::Never(set) => Ok(RuleReachability::Never(set)),
+        Reachability::Unknown => Ok(RuleReachability::Unknown),
+    }
 }
 
 /// Returns the indexes of the later rules that apply to each kind of path, of folders or of others, that a rule applies to.

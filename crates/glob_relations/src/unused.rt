@@ -29,14 +29,14 @@ pub enum Decides {
     Last,
 }
 
-/// Whether a glob of a list ever decides, or a rule of an ignore file.
+/// Whether a glob of a list ever decides.
 #[derive(Drop)]
 pub enum Reachability {
     /// It decides for this path of the domain, and for no shorter path.
     Decides(Vec<u8>),
     /// It decides for no path of the domain: the globs at these indexes, which all come before it if the first match decides, and
-    /// after it if the last match decides, cover it. Of rules, these are later ones. None can be left out. It is one index if one of
-    /// them covers the glob alone, and none if the glob matches no path of the domain.
+    /// after it if the last match decides, cover it. None can be left out. It is one index if one of them covers the glob alone, and
+    /// none if the glob matches no path of the domain.
     Never(Vec<usize>),
     /// There are more rows than the limit.
     Unknown,

@@ -9,7 +9,7 @@ use crate::fault::Fault;
 use crate::output::Output;
 use crate::shown::Shown;
 use crate::text_file::TextFile;
-use glob_relations::{Domain, Intersection, Reachability, unreachable_rules};
+use glob_relations::{Domain, Intersection, RuleReachability, unreachable_rules};
 use std::alloc::{AllocError, Global};
 use std::fmt;
 use std::process::ExitCode;
@@ -67,13 +67,13 @@ impl<'a> Findings<'a> {
         let found = unreachable_rules(alloc, &rules.patterns, false, domain, LIMIT)?;
         for (rule, found) in rules.rules.iter().zip(&found) {
             match found {
-                Reachability::Decides(_) => {}
-                Reachability::Never(by) => {
+                RuleReachability::Decides(_) | RuleReachability::Hidden(_) => {}
+                RuleReachability::Never(by) => {
                     let lines = ignoring_lines(alloc, rules, by)?;
                     let covering = Covering(&lines);
                     self.push_line(alloc, rule.line, rule.text, "never decides: ", covering)?;
                 }
-                Reachability::Unknown => {
+                RuleReachability::Unknown => {
                     self.push_line(alloc, rule.line, rule.text, "may never decide: ", "unknown")?;
                 }
             }

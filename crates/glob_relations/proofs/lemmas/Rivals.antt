@@ -10,10 +10,8 @@ use Rattle.ignore_pattern.proofs.lemmas.Booleans.{and_both, and_first, and_secon
 use Rattle.glob_relations.specs.Patterns.{with_pattern, patterns_at, some_pattern_matches, IsPatternCovered, IsPatternMissed}
 use Rattle.glob_relations.specs.declared.domain.Domain.{Domain}
 use Rattle.glob_relations.specs.Shortest.{IsShortest}
-use Rattle.glob_relations.specs.Rules.{IsDecided, IsRival, TellsRule}
-use Rattle.glob_relations.specs.declared.unused.Reachability.{Reachability}
-use Rattle.glob_relations.specs.declared.unused.Reachability.TheVariants.{Decides, Never, Unknown}
-use Rattle.glob_relations.specs.inner.Rivals.{IsLeastPatternCover, TellsAmong}
+use Rattle.glob_relations.specs.Rules.{IsDecidedAlone, IsRival, NeverDecides}
+use Rattle.glob_relations.specs.inner.Rivals.{IsLeastPatternCover}
 use Rattle.glob_relations.proofs.lemmas.Indexes.{each_contained, contains_none, contains_one, rest_of, contains_rest, rest_contains, rest_before}
 use Rattle.glob_relations.proofs.lemmas.Told.{is_false, shortest_same}
 
@@ -170,7 +168,7 @@ own_kind false = refl
 
 module _ (ignore_case : Bool) (ps : List Pattern) (i : ℕ) (p : Pattern) (domain : Domain) (others : List ℕ) (all : (k : ℕ) → Contains others k ↔ IsRival ps i p k) where
   -- the rule decides about the paths that its rivals miss
-  missed_decided : (path : List ℕ) → IsPatternMissed ignore_case p (patterns_at ps others) domain path ↔ IsDecided ignore_case ps i p domain path
+  missed_decided : (path : List ℕ) → IsPatternMissed ignore_case p (patterns_at ps others) domain path ↔ IsDecidedAlone ignore_case ps i p domain path
   missed_decided path = (
     λ (inside, matched, off). (
       inside,
@@ -199,18 +197,19 @@ module _ (ignore_case : Bool) (ps : List Pattern) (i : ℕ) (p : Pattern) (domai
     ),
   )
 
-  -- what is told of a rule among its rivals
-  pub told_rule : (limit : ℕ) (told : Reachability) → TellsAmong ignore_case ps p others domain limit told → TellsRule ignore_case ps i p domain limit told
-  told_rule limit (Decides path) is = shortest_same (IsPatternMissed ignore_case p (patterns_at ps others) domain) (IsDecided ignore_case ps i p domain) path.items missed_decided is
-  told_rule limit (Never set) is = record {
-    never = λ path decided.
-        missed_uncovered ignore_case p (patterns_at ps others) domain path ((missed_decided path).1 decided) (covered_at ignore_case ps p domain set.items others is.within is.covers);
+  -- a shortest path that the rivals miss
+  pub shortest_decided : (path : List ℕ) → IsShortest (IsPatternMissed ignore_case p (patterns_at ps others) domain) path → IsShortest (IsDecidedAlone ignore_case ps i p domain) path
+  shortest_decided path is = shortest_same (IsPatternMissed ignore_case p (patterns_at ps others) domain) (IsDecidedAlone ignore_case ps i p domain) path missed_decided is
+
+  -- a least cover by rivals
+  pub never_decides : (set : List ℕ) → IsLeastPatternCover ignore_case ps p others domain set → NeverDecides ignore_case ps i p domain set
+  never_decides set is = record {
+    never = λ path decided. missed_uncovered ignore_case p (patterns_at ps others) domain path ((missed_decided path).1 decided) (covered_at ignore_case ps p domain set others is.within is.covers);
     within = λ k at. (all k).0 (is.within k at);
     covers = is.covers;
     least = is.least;
     single = λ lt k rival. is.single lt k ((all k).1 rival);
   }
-  told_rule limit Unknown (by, within, tells) = (by, (λ k at. (all k).0 (within k at)), tells)
 
 -- a rival is a rule of the list
 pub rival_below : (ps : List Pattern) (i k : ℕ) (p : Pattern) → IsRival ps i p k → k < length ps

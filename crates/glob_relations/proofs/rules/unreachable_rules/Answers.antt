@@ -3,21 +3,21 @@ use Rattle.std.specs.Prelude.{slice_get}
 use Rattle.std.proofs.Math.Logic.{⊎_elim}
 use Rattle.ignore_pattern.specs.Patterns.{Pattern}
 use Rattle.glob_relations.specs.Rules.{TellsRule}
-use Rattle.glob_relations.specs.declared.unused.Reachability.{Reachability}
+use Rattle.glob_relations.specs.declared.rules.RuleReachability.{RuleReachability}
 use Rattle.glob_relations.proofs.lemmas.Rows.{get_cases}
 use Rattle.glob_relations.proofs.rules.unreachable_rules.Goals as goal
 
 pub loop-i-preserved : goal.loop-i-preserved
 loop-i-preserved c =
     let ps : List Pattern = c.args.patterns.now in
-    let all : List Reachability = c.loop-i.all.items in
-    let x : Reachability = c.in_ok-rule_reachability.field-0 in
+    let all : List RuleReachability = c.loop-i.all.items in
+    let x : RuleReachability = c.in_ok-rule_reachability.field-0 in
     let inv = c.loop-i.invariant in
     record {
       len = omega (arith, inv.len, ap length c.in_ok-push.ensures.items, length-append all (x ∷ []));
       each = λ i p told at there. ⊎_elim {C = TellsRule c.args.ignore_case ps i p c.args.domain c.args.limit told}
           (λ old. inv.each i p told at old)
           (λ (e, same). subst (λ (j : ℕ). slice_get ps j ≡ Some p → TellsRule c.args.ignore_case ps j p c.args.domain c.args.limit told) (sym (e ∙ inv.len))
-          (λ here. subst (λ (t : Reachability). TellsRule c.args.ignore_case ps c.loop-i.i p c.args.domain c.args.limit t) (sym same) (c.in_ok-rule_reachability.ensures p here)) at)
-          (get_cases all x i told (subst (λ (l : List Reachability). slice_get l i ≡ Some told) c.in_ok-push.ensures.items there));
+          (λ here. subst (λ (t : RuleReachability). TellsRule c.args.ignore_case ps c.loop-i.i p c.args.domain c.args.limit t) (sym same) (c.in_ok-rule_reachability.ensures p here)) at)
+          (get_cases all x i told (subst (λ (l : List RuleReachability). slice_get l i ≡ Some told) c.in_ok-push.ensures.items there));
     }
