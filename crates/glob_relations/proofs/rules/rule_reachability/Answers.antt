@@ -31,8 +31,8 @@ returns-in-Never c = λ p at.
     subst (λ (r : Pattern). TellsRule c.args.ignore_case ps c.args.i r c.args.domain c.args.limit (Never c.in-Never.set)) (c.index-patterns-i.is ∙ get_or_from_slice_get ps c.args.i p q at)
     (never_decides c.args.ignore_case ps c.args.i q c.args.domain now all c.in-Never.set.items is)
 
-pub returns-in-Unknown : goal.returns-in-Unknown
-returns-in-Unknown c = λ p at.
+pub returns : goal.returns
+returns c = λ p at.
     let ps : List Pattern = c.args.patterns.now in
     let q : Pattern = c.index-patterns-i.result in
     let now : List ℕ = c.deref.result.now in
