@@ -36,7 +36,7 @@ const char *globset_status_text(int status) {
         "the error is none, so it says nothing",
         "a length or a count is larger than any array can be",
         "a search has more rows than its limit",
-        "there is no answer or ignore file of this index",
+        "there is no answer, ignore file or line of this index",
     };
     static const int count = sizeof errors / sizeof *errors;
     if (status == 1) return "the answer is yes";
@@ -47,6 +47,7 @@ static int result_of(globset_status status) {
     switch (status) {
     case GLOBSET_DONE: return GLOBSET_OK;
     case GLOBSET_NO: return 0;
+    case GLOBSET_BELOW_IGNORED: return 0;
     case GLOBSET_YES: return 1;
     case GLOBSET_OUT_OF_MEMORY: return GLOBSET_ENOMEM;
     case GLOBSET_REJECTED: return GLOBSET_EGLOB;
@@ -536,6 +537,11 @@ static globset_status read_answer(globset_answers *answers, size_t index, globse
     return globset_raw_answers_at(&owned, index, path, indexes);
 }
 
+/* Whether a status of read_answer tells whether there is a path. */
+static bool is_known(globset_status status) {
+    return status == GLOBSET_YES || status == GLOBSET_NO || status == GLOBSET_BELOW_IGNORED;
+}
+
 int globset_answers_has_path(globset_answers *answers, size_t index, const char **path, size_t *length) {
     globset_bytes found;
     globset_indexes indexes;
@@ -557,7 +563,7 @@ int globset_answers_indexes(globset_answers *answers, size_t index, const size_t
     if (count != NULL) *count = 0;
     if (answers == NULL || indexes == NULL || count == NULL) return GLOBSET_ENULL;
     status = read_answer(answers, index, &path, &found);
-    if (status != GLOBSET_YES && status != GLOBSET_NO) return result_of(status);
+    if (!is_known(status)) return result_of(status);
     *indexes = found.at;
     *count = found.count;
     return GLOBSET_OK;
@@ -663,8 +669,88 @@ int globset_ignore_unread_lines(globset_ignore *ignore, size_t file, const size_
     return GLOBSET_OK;
 }
 
+int globset_ignore_line_text(globset_ignore *ignore, size_t file, size_t line, const char **text, size_t *length) {
+    globset_owned owned = own(ignore);
+    globset_bytes found = {(const uint8_t *)no_items, 0};
+    globset_status status;
+    if (text != NULL) *text = NULL;
+    if (length != NULL) *length = 0;
+    if (ignore == NULL || text == NULL) return GLOBSET_ENULL;
+    status = globset_raw_ignore_line_text(&owned, file, line, &found);
+    if (status != GLOBSET_DONE) return result_of(status);
+    *text = (const char *)found.at;
+    if (length != NULL) *length = found.count;
+    return GLOBSET_OK;
+}
+
 void globset_ignore_free(globset_ignore *ignore) {
     globset_owned owned = own(ignore);
     globset_indexes lines = {no_items, 0};
     if (ignore != NULL && globset_raw_ignore_unread_lines(&owned, 0, &lines) != GLOBSET_WRONG_KIND) free_object(ignore);
+}
+
+/* ---- Rules that never decide ---- */
+
+int globset_ignore_unreachable(globset_ignore *ignore, size_t file, uint32_t domain, size_t limit,
+                               globset_answers **answers) {
+    globset_owned owned = own(ignore), made = own(NULL);
+    globset_status status;
+    if (answers == NULL) return GLOBSET_ENULL;
+    *answers = NULL;
+    if (ignore == NULL) return GLOBSET_ENULL;
+    status = globset_raw_ignore_unreachable(&owned, file, domain, limit, &made);
+    *answers = made.at;
+    return result_of(status);
+}
+
+/* Finds the lines of the rules that answers are about. Returns GLOBSET_OK only if the one of an index is among them. */
+static int read_lines(globset_answers *answers, size_t index, globset_indexes *lines) {
+    globset_owned owned = own(answers);
+    globset_status status;
+    lines->at = no_items;
+    lines->count = 0;
+    status = globset_raw_answers_lines(&owned, lines);
+    if (status != GLOBSET_DONE) return result_of(status);
+    return index < lines->count ? GLOBSET_OK : GLOBSET_EINDEX;
+}
+
+int globset_answers_rule(globset_answers *answers, size_t index, size_t *line, uint32_t *found) {
+    globset_bytes path;
+    globset_indexes indexes, lines;
+    int result;
+    if (line != NULL) *line = 0;
+    if (found != NULL) *found = GLOBSET_UNKNOWN;
+    if (answers == NULL || line == NULL || found == NULL) return GLOBSET_ENULL;
+    result = read_lines(answers, index, &lines);
+    if (result != GLOBSET_OK) return result;
+    *line = lines.at[index];
+    switch (read_answer(answers, index, &path, &indexes)) {
+    case GLOBSET_YES: *found = GLOBSET_DECIDES; break;
+    case GLOBSET_NO: *found = GLOBSET_COVERED; break;
+    case GLOBSET_BELOW_IGNORED: *found = GLOBSET_IN_IGNORED; break;
+    default: break;
+    }
+    return GLOBSET_OK;
+}
+
+int globset_answers_lines(globset_answers *answers, size_t index, size_t *lines, size_t size, size_t *count) {
+    globset_bytes path;
+    globset_indexes indexes, all;
+    globset_status status;
+    int result;
+    if (count == NULL) return GLOBSET_ENULL;
+    *count = 0;
+    if (answers == NULL || (lines == NULL && size > 0)) return GLOBSET_ENULL;
+    if (is_too_many(size)) return GLOBSET_ELENGTH;
+    result = read_lines(answers, index, &all);
+    if (result != GLOBSET_OK) return result;
+    status = read_answer(answers, index, &path, &indexes);
+    if (!is_known(status)) return result_of(status);
+    *count = indexes.count;
+    if (indexes.count > size) return GLOBSET_EBUFFER;
+    /* The indexes may be read until the lines are. */
+    for (size_t i = 0; i < *count; i++) lines[i] = indexes.at[i];
+    result = read_lines(answers, index, &all);
+    for (size_t i = 0; i < *count && result == GLOBSET_OK; i++) lines[i] = all.at[lines[i]];
+    return result;
 }

@@ -124,7 +124,7 @@ enum {
     GLOBSET_ENONE = -9,    /* the error is none: its kind is none of those below */
     GLOBSET_ELENGTH = -10, /* a length, a size or a count is larger than any array can be, as -1 is */
     GLOBSET_ELIMIT = -11,  /* a search has more rows than its limit */
-    GLOBSET_EINDEX = -12   /* there is no answer, or no ignore file, of this index */
+    GLOBSET_EINDEX = -12   /* there is no answer, ignore file or line of this index */
 };
 
 /* Returns what a result means, for people: "memory ran out" and the like. The text is static and never null. */
@@ -331,8 +331,8 @@ GLOBSET_CHECKED int globset_answers_has_path(globset_answers *answers, size_t in
 /* Finds the globs that an answer of globset_unreachable names. GLOBSET_OK: `indexes` points to their indexes, and `count`
  * says how many they are: the globs cover the glob of the answer together, and none of them can be left out. It is one
  * if some glob covers it alone. There are none if the glob matches no path of the domain, or if the answer has a path.
- * They may be read until the next call that the answers are passed to. GLOBSET_ELIMIT, GLOBSET_EINDEX, and then `indexes`
- * is null and `count` is 0. It takes no memory. */
+ * They may be read until the next call that the answers are passed to. Of an answer of globset_ignore_unreachable they are
+ * indexes of rules. GLOBSET_ELIMIT, GLOBSET_EINDEX, and then `indexes` is null and `count` is 0. It takes no memory. */
 GLOBSET_CHECKED int globset_answers_indexes(globset_answers *answers, size_t index, const size_t **indexes,
                                             size_t *count);
 
@@ -433,6 +433,43 @@ GLOBSET_CHECKED int globset_ignore_rules_many(globset_ignore *ignore, const char
  * GLOBSET_EINDEX: there is no such file, and then `lines` is null and `count` is 0. It takes no memory. */
 GLOBSET_CHECKED int globset_ignore_unread_lines(globset_ignore *ignore, size_t file, const size_t **lines,
                                                 size_t *count);
+
+/* Finds the text of a line, as `git check-ignore -v` prints that of a rule: without what git removes at the end of a line. The
+ * file and the line are those of globset_rule. GLOBSET_OK: `text` points to the `length` bytes of the text, which no NUL
+ * follows and which may be read until the next call that the walk is passed to. GLOBSET_EINDEX: there is no such file or line,
+ * and then `text` is null and `length` is 0. Time is linear in the file up to the line. It takes no memory. */
+GLOBSET_CHECKED int globset_ignore_line_text(globset_ignore *ignore, size_t file, size_t line, const char **text,
+                                             size_t *length);
+
+/* What globset_ignore_unreachable finds out about a rule. */
+enum {
+    GLOBSET_UNKNOWN = 0,   /* nothing: a search had more rows than its limit */
+    GLOBSET_DECIDES = 1,   /* it decides about some path */
+    GLOBSET_COVERED = 2,   /* it never decides: later rules cover it, or it matches no path of the domain */
+    GLOBSET_IN_IGNORED = 3 /* it never decides: each path that it would decide about lies below an ignored directory */
+};
+
+/* Finds out for each rule of a file whether it ever decides about a path of the domain by GLOBSET_BY_GIT, if there were no
+ * other file. The file is that of an index as in globset_rule, paths begin in its directory, and the domains are
+ * GLOBSET_ALL_PATHS and GLOBSET_RELATIVE_PATHS. GLOBSET_OK: the answer of index i is about rule number i of the file, from 0,
+ * in the order of the lines. globset_answers_rule and globset_answers_lines tell it, and globset_answers_has_path tells a
+ * shortest path about which the rule decides, if there is one. Each search has the limit. GLOBSET_EINDEX: there is no such
+ * file. GLOBSET_EOPTIONS, GLOBSET_ENOMEM. */
+GLOBSET_CHECKED int globset_ignore_unreachable(globset_ignore *ignore, size_t file, uint32_t domain, size_t limit,
+                                               globset_answers **answers);
+
+/* Finds the rule that an answer of globset_ignore_unreachable is about. GLOBSET_OK: `line` is the number of its line, and
+ * `found` is one of the numbers above. GLOBSET_EINDEX: there are not so many rules, and then both are 0. It takes no memory. */
+GLOBSET_CHECKED int globset_answers_rule(globset_answers *answers, size_t index, size_t *line, uint32_t *found);
+
+/* Finds the rules that decide instead of the one that an answer of globset_ignore_unreachable is about. `lines` has room for
+ * `size` numbers, and `count` is how many rules they are. GLOBSET_OK: the first `count` numbers are those of their lines. At
+ * GLOBSET_COVERED these rules cover the rule together, and none of them can be left out. It is one if some rule covers it
+ * alone, and there are none if it matches no path of the domain. At GLOBSET_IN_IGNORED it is one, which ignores such a
+ * directory, and at GLOBSET_DECIDES there are none. GLOBSET_EBUFFER: there is no room for so many, and `lines` is as it was.
+ * GLOBSET_ELIMIT, GLOBSET_EINDEX, and then `count` is 0. It takes no memory. */
+GLOBSET_CHECKED int globset_answers_lines(globset_answers *answers, size_t index, size_t *lines, size_t size,
+                                          size_t *count);
 
 void globset_ignore_free(globset_ignore *ignore);
 

@@ -188,6 +188,32 @@ static void unread_lines(void) {
     globset_ignore_free(ignore);
 }
 
+/* Whether a line of a file has this text, which is null if there is no such line. */
+static int has_text(globset_ignore *ignore, size_t file, size_t line, const char *wanted) {
+    const char *text = "x";
+    size_t length = 7;
+    int result = globset_ignore_line_text(ignore, file, line, &text, &length);
+    if (wanted == NULL) return result == GLOBSET_EINDEX && text == NULL && length == 0;
+    CHECK(result == GLOBSET_OK && length == strlen(wanted) && memcmp(text, wanted, length) == 0);
+    return globset_ignore_line_text(ignore, file, line, &text, NULL) == GLOBSET_OK && memcmp(text, wanted, length) == 0;
+}
+
+/* The texts that `git check-ignore -v` prints of rules, and those of other lines. */
+static void line_texts(void) {
+    static const char file[] = "\xef\xbb\xbf*.o\r\n\n# text  \n!a\\ \\b  \n[c\n/d\0e";
+    globset_ignore *ignore;
+    CHECK(globset_ignore_new(0, &ignore) == GLOBSET_OK);
+    CHECK(globset_ignore_add_file(ignore, file, sizeof file - 1) == GLOBSET_OK);
+    CHECK(globset_ignore_add_file(ignore, TEXT("x \n")) == GLOBSET_OK);
+    CHECK(has_text(ignore, 0, 1, "*.o") && has_text(ignore, 0, 2, "") && has_text(ignore, 0, 3, "# text"));
+    CHECK(has_text(ignore, 0, 4, "!a\\ \\b") && has_text(ignore, 0, 5, "[c") && has_text(ignore, 0, 6, "/d"));
+    CHECK(has_text(ignore, 1, 1, "x") && has_text(ignore, 1, 2, "") && has_text(ignore, 1, 3, NULL));
+    CHECK(has_text(ignore, 0, 0, NULL) && has_text(ignore, 0, 7, NULL) && has_text(ignore, 0, SIZE_MAX, NULL));
+    CHECK(has_text(ignore, 2, 1, NULL) && has_text(ignore, SIZE_MAX, 1, NULL));
+    CHECK(decides(ignore, "y/b.o", 0, GLOBSET_BY_GIT, 1, 0, 1) && has_text(ignore, 0, 1, "*.o"));
+    globset_ignore_free(ignore);
+}
+
 /* The example of globset.h. */
 static void example(void) {
     globset_ignore *ignore = NULL;
@@ -208,6 +234,7 @@ int main(void) {
     many();
     rules_many();
     unread_lines();
+    line_texts();
     example();
     puts("ignore: passed");
     return 0;

@@ -162,6 +162,33 @@ static void try_ignore(void) {
     globset_ignore_free(ignore);
 }
 
+/* After a failure there are no answers, and the walk has its file. Texts of lines and answers are read without memory. */
+static void try_rules(void) {
+    globset_ignore *ignore;
+    globset_answers *answers;
+    const char *text;
+    size_t length, line, lines[2], count;
+    uint32_t found;
+    CHECK(globset_ignore_new(0, &ignore) == GLOBSET_OK);
+    CHECK(globset_ignore_add_file(ignore, TEXT("[ab] \n/src\n!/src/c\n\na\nb")) == GLOBSET_OK);
+    left = 0;
+    CHECK(globset_ignore_line_text(ignore, 0, 1, &text, &length) == GLOBSET_OK);
+    CHECK(length == 4 && memcmp(text, "[ab]", 4) == 0);
+    CHECK(globset_ignore_line_text(ignore, 0, 7, &text, &length) == GLOBSET_EINDEX && text == NULL);
+    left = -1;
+    TRY(globset_ignore_unreachable(ignore, 0, GLOBSET_RELATIVE_PATHS, 1000, &answers), GLOBSET_OK,
+        CHECK(answers == NULL && blocks == before && globset_ignore_is_ignored(ignore, "b", 1, 0, 0, NULL) == 1));
+    left = 0;
+    CHECK(globset_answers_rule(answers, 0, &line, &found) == GLOBSET_OK && line == 1 && found == GLOBSET_COVERED);
+    CHECK(globset_answers_lines(answers, 0, lines, 2, &count) == GLOBSET_OK && count == 2 && lines[0] + lines[1] == 11);
+    CHECK(globset_answers_rule(answers, 2, &line, &found) == GLOBSET_OK && line == 3 && found == GLOBSET_IN_IGNORED);
+    CHECK(globset_answers_lines(answers, 2, lines, 2, &count) == GLOBSET_OK && count == 1 && lines[0] == 2);
+    CHECK(globset_answers_has_path(answers, 3, &text, &length) == 1 && length == 1 && text[0] == 'a');
+    left = -1;
+    globset_answers_free(answers);
+    globset_ignore_free(ignore);
+}
+
 /* How many bytes were asked for while a set was made that keeps at most so many bytes of rows. */
 static size_t bytes_of_set(size_t limit) {
     globset_builder *builder;
@@ -189,6 +216,7 @@ int main(void) {
     globset_set_free(set);
     try_relations();
     try_ignore();
+    try_rules();
     CHECK(blocks == 0);
     CHECK(failures > 0);
     printf("memory: passed, %ld failures of allocations\n", failures);

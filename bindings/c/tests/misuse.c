@@ -164,6 +164,32 @@ static void relations(void) {
     globset_glob_free(glob);
 }
 
+static void rules(void) {
+    globset_ignore *ignore;
+    globset_answers *answers = (globset_answers *)&ignore;
+    const char *text = "x";
+    size_t count = 7, line = 7;
+    uint32_t found = 7;
+    CHECK(globset_ignore_new(0, &ignore) == GLOBSET_OK && globset_ignore_add_file(ignore, "a", 1) == GLOBSET_OK);
+    CHECK(globset_ignore_line_text(NULL, 0, 1, &text, &count) == GLOBSET_ENULL && text == NULL && count == 0);
+    count = 7;
+    CHECK(globset_ignore_line_text(ignore, 0, 1, NULL, &count) == GLOBSET_ENULL && count == 0);
+    CHECK(globset_ignore_unreachable(NULL, 0, 0, 9, &answers) == GLOBSET_ENULL && answers == NULL);
+    CHECK(globset_ignore_unreachable(ignore, 0, 0, 9, NULL) == GLOBSET_ENULL);
+    CHECK(globset_answers_rule(NULL, 0, &line, &found) == GLOBSET_ENULL && line == 0 && found == 0);
+    count = 7;
+    CHECK(globset_answers_lines(NULL, 0, &line, 1, &count) == GLOBSET_ENULL && count == 0);
+    CHECK(globset_ignore_unreachable(ignore, 0, 0, 9, &answers) == GLOBSET_OK);
+    line = found = 7;
+    CHECK(globset_answers_rule(answers, 0, NULL, &found) == GLOBSET_ENULL && found == 0);
+    CHECK(globset_answers_rule(answers, 0, &line, NULL) == GLOBSET_ENULL && line == 0);
+    CHECK(globset_answers_lines(answers, 0, NULL, 1, &count) == GLOBSET_ENULL);
+    CHECK(globset_answers_lines(answers, 0, &line, 1, NULL) == GLOBSET_ENULL);
+    CHECK(globset_answers_lines(answers, 0, &line, (size_t)-1, &count) == GLOBSET_ELENGTH && count == 0);
+    globset_answers_free(answers);
+    globset_ignore_free(ignore);
+}
+
 static void ignores(void) {
     static const size_t end = 1;
     globset_glob *glob = glob_of("a", 0);
@@ -231,6 +257,11 @@ static void no_answers(void *object) {
     size_t count = 7;
     CHECK(globset_answers_has_path(answers, 0, &path, &count) == GLOBSET_EKIND && path == NULL && count == 0);
     CHECK(globset_answers_indexes(answers, 0, &indexes, &count) == GLOBSET_EKIND && indexes == NULL && count == 0);
+    size_t line = 7, lines = 7;
+    uint32_t found = 7;
+    count = 7;
+    CHECK(globset_answers_rule(answers, 0, &line, &found) == GLOBSET_EKIND && line == 0 && found == 0);
+    CHECK(globset_answers_lines(answers, 0, &lines, 1, &count) == GLOBSET_EKIND && lines == 7 && count == 0);
 }
 
 static void no_ignore(void *object) {
@@ -248,6 +279,11 @@ static void no_ignore(void *object) {
     CHECK(globset_ignore_decide_many(ignore, "a", 1, &end, 1, 0, &answer) == GLOBSET_EKIND && answer == 7);
     CHECK(globset_ignore_rules_many(ignore, "a", 1, &end, 1, 0, &told) == GLOBSET_EKIND && told.line == 7);
     CHECK(globset_ignore_unread_lines(ignore, 0, &lines, &count) == GLOBSET_EKIND && lines == NULL && count == 0);
+    globset_answers *answers = (globset_answers *)object;
+    const char *text = "x";
+    count = 7;
+    CHECK(globset_ignore_line_text(ignore, 0, 1, &text, &count) == GLOBSET_EKIND && text == NULL && count == 0);
+    CHECK(globset_ignore_unreachable(ignore, 0, 0, 9, &answers) == GLOBSET_EKIND && answers == NULL);
 }
 
 static void no_glob(const void *object, globset_builder *builder) {
@@ -417,6 +453,7 @@ int main(void) {
     many();
     relations();
     ignores();
+    rules();
     wrong_kinds();
     impossible_lengths();
     impossible_lengths_of_ignores();

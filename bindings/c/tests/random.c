@@ -105,11 +105,24 @@ static void relate(struct caller *caller) {
     const globset_glob *const *list = next(caller, 9) ? two : NULL;
     const char *path;
     const size_t *indexes;
-    switch (next(caller, 5)) {
+    size_t line, lines[2];
+    uint32_t found;
+    switch (next(caller, 8)) {
     case 0: note(caller, globset_covering(object(caller, 0), list, count, domain, limit, to)); break;
     case 1: note(caller, globset_overlap(two[0], two[1], domain, limit, to)); break;
     case 2: note(caller, globset_unreachable(list, count, decides, domain, limit, to)); break;
     case 3: note(caller, globset_answers_has_path(object(caller, 5), next(caller, 3), &path, &count)); break;
+    case 4: note(caller, globset_answers_rule(object(caller, 5), next(caller, 3), &line, &found)); break;
+    case 5:
+        note(caller, globset_answers_lines(object(caller, 5), next(caller, 3), next(caller, 9) ? lines : NULL,
+                                           count < 3 ? next(caller, 3) : count, next(caller, 9) ? &line : NULL));
+        break;
+    case 6: {
+        int result = globset_ignore_unreachable(object(caller, 6), next(caller, 3), domain, limit, to);
+        note(caller, result);
+        if (result == GLOBSET_OK) note(caller, globset_answers_rule(made, next(caller, 2), &line, &found));
+        break;
+    }
     default: note(caller, globset_answers_indexes(object(caller, 5), next(caller, 3), &indexes, &count));
     }
     globset_searcher_free((globset_searcher *)made);
@@ -125,10 +138,11 @@ static void walk(struct caller *caller) {
     uint32_t by = (uint32_t)next(caller, 4);
     globset_rule rule;
     const size_t *lines;
+    const char *line;
     uint8_t answers[2];
     globset_told_rule rules[2];
     int result;
-    switch (next(caller, 6)) {
+    switch (next(caller, 7)) {
     case 0:
         note(caller, globset_ignore_is_ignored(ignore, bytes, length, 0, by, next(caller, 9) ? &rule : NULL));
         break;
@@ -137,6 +151,10 @@ static void walk(struct caller *caller) {
                                                 next(caller, 9) ? answers : NULL));
         break;
     case 2: note(caller, globset_ignore_unread_lines(ignore, next(caller, 3), &lines, &count)); break;
+    case 5:
+        note(caller, globset_ignore_line_text(ignore, next(caller, 3), next(caller, 3), &line,
+                                              next(caller, 9) ? &count : NULL));
+        break;
     case 4:
         note(caller, globset_ignore_rules_many(ignore, bytes, length, next(caller, 9) ? ends : NULL, many, by,
                                                next(caller, 9) ? rules : NULL));

@@ -141,6 +141,128 @@ static void never(void) {
     globset_answers_free(at_limit);
 }
 
+/* What is found out about a rule of an ignore file: the number of its line, the only shortest path about which it decides, or
+ * null, and the lines of the rules that decide instead, as digits in any order. */
+struct found {
+    size_t line;
+    uint32_t found;
+    const char *path, *instead;
+};
+
+/* Whether the lines of the rules that decide instead of that of an answer are these digits, in any order. */
+static int has_lines(globset_answers *answers, size_t index, const char *wanted) {
+    size_t lines[4] = {7, 7, 7, 7}, count = 7, needed = strlen(wanted);
+    if (needed > 0)
+        CHECK(globset_answers_lines(answers, index, lines, needed - 1, &count) == GLOBSET_EBUFFER && count == needed &&
+              lines[0] == 7);
+    CHECK(globset_answers_lines(answers, index, needed > 0 ? lines : NULL, needed, &count) == GLOBSET_OK);
+    CHECK(count == needed && lines[needed] == 7);
+    for (size_t i = 0; i < count; i++) {
+        CHECK(lines[i] < 10 && strchr(wanted, (int)lines[i] + '0') != NULL);
+        for (size_t k = 0; k < i; k++) CHECK(lines[k] != lines[i]);
+    }
+    return 1;
+}
+
+static int is_found(globset_answers *answers, size_t index, const struct found *wanted) {
+    const char *path;
+    size_t line = 77, length;
+    uint32_t found = 7;
+    CHECK(globset_answers_rule(answers, index, &line, &found) == GLOBSET_OK);
+    CHECK(line == wanted->line && found == wanted->found && has_lines(answers, index, wanted->instead));
+    CHECK(globset_answers_has_path(answers, index, &path, &length) == (wanted->path != NULL));
+    return wanted->path == NULL || (length == strlen(wanted->path) && memcmp(path, wanted->path, length) == 0);
+}
+
+static int has_no_rule(globset_answers *answers, size_t index) {
+    size_t line = 7, count = 7;
+    uint32_t found = 7;
+    CHECK(globset_answers_rule(answers, index, &line, &found) == GLOBSET_EINDEX && line == 0 && found == 0);
+    return globset_answers_lines(answers, index, NULL, 0, &count) == GLOBSET_EINDEX && count == 0;
+}
+
+static int is_unknown(globset_answers *answers, size_t index, size_t wanted_line) {
+    size_t line = 77, count = 7;
+    uint32_t found = 7;
+    CHECK(globset_answers_rule(answers, index, &line, &found) == GLOBSET_OK && line == wanted_line);
+    CHECK(found == GLOBSET_UNKNOWN && globset_answers_lines(answers, index, NULL, 0, &count) == GLOBSET_ELIMIT);
+    return count == 0 && is_at_limit(answers, index);
+}
+
+/* The rules of ignore files, by git's rule. The walk is freed before the answers are read. */
+static void never_of_files(void) {
+    static const struct {
+        const char *file;
+        uint32_t options, domain;
+        struct found rules[3];
+    } rows[] = {
+        {"*.log\n# a\n!keep.log\n\n*.log\n",
+         0,
+         1,
+         {{1, GLOBSET_COVERED, NULL, "5"}, {3, GLOBSET_COVERED, NULL, "5"}, {5, GLOBSET_DECIDES, ".log", ""}}},
+        {"[x\n/src\n!/src/a", 0, 1, {{2, GLOBSET_DECIDES, "src", ""}, {3, GLOBSET_IN_IGNORED, NULL, "2"}}},
+        {"out/\n!out/keep\nout/*.o",
+         0,
+         1,
+         {{1, GLOBSET_DECIDES, "out", ""}, {2, GLOBSET_IN_IGNORED, NULL, "1"}, {3, GLOBSET_IN_IGNORED, NULL, "1"}}},
+        {"/src/[bc]\n!/src/b\n/src/b/c",
+         0,
+         1,
+         {{1, GLOBSET_DECIDES, "src/c", ""}, {2, GLOBSET_DECIDES, "src/b", ""}, {3, GLOBSET_DECIDES, "src/b/c", ""}}},
+        {"[ab]\nb\n!a",
+         0,
+         0,
+         {{1, GLOBSET_COVERED, NULL, "23"}, {2, GLOBSET_DECIDES, "b", ""}, {3, GLOBSET_DECIDES, "a", ""}}},
+        {"a/\n!a", 0, 1, {{1, GLOBSET_COVERED, NULL, "2"}, {2, GLOBSET_DECIDES, "a", ""}}},
+        {"a\n!a/", 0, 1, {{1, GLOBSET_DECIDES, "a", ""}, {2, GLOBSET_DECIDES, "a", ""}}},
+        {"a//b\n..\na",
+         0,
+         1,
+         {{1, GLOBSET_COVERED, NULL, ""}, {2, GLOBSET_COVERED, NULL, ""}, {3, GLOBSET_DECIDES, "a", ""}}},
+        {"1\n..", 0, 0, {{1, GLOBSET_DECIDES, "1", ""}, {2, GLOBSET_DECIDES, "..", ""}}},
+        {"a\nA", 0, 1, {{1, GLOBSET_DECIDES, "a", ""}, {2, GLOBSET_DECIDES, "A", ""}}},
+        {"a1\n!A1\n1", GLOBSET_IGNORE_CASE, 1, {{1, GLOBSET_COVERED, NULL, "2"}}},
+        {"# a\n[", 0, 1, {{0, 0, NULL, NULL}}},
+    };
+    for (size_t i = 0; i < sizeof rows / sizeof *rows; i++) {
+        globset_ignore *ignore;
+        globset_answers *answers, *at_limit;
+        size_t count = 0;
+        CHECK(globset_ignore_new(rows[i].options, &ignore) == GLOBSET_OK);
+        CHECK(globset_ignore_add_file(ignore, TEXT("*\n")) == GLOBSET_OK);
+        CHECK(globset_ignore_add_file(ignore, TEXT(rows[i].file)) == GLOBSET_OK);
+        CHECK(globset_ignore_unreachable(ignore, 1, rows[i].domain, LIMIT, &answers) == GLOBSET_OK);
+        CHECK(globset_ignore_unreachable(ignore, 1, rows[i].domain, 0, &at_limit) == GLOBSET_OK);
+        globset_ignore_free(ignore);
+        for (; count < 3 && rows[i].rules[count].line > 0; count++) {
+            CHECK(is_found(answers, count, &rows[i].rules[count]));
+            CHECK(is_unknown(at_limit, count, rows[i].rules[count].line));
+        }
+        CHECK(has_no_rule(answers, 3) && has_no_rule(answers, SIZE_MAX) && has_no_answer(answers, 3));
+        if (count == 0) CHECK(has_no_rule(answers, 0) && has_no_rule(at_limit, 0) && has_no_answer(answers, 0));
+        globset_answers_free(answers);
+        globset_answers_free(at_limit);
+    }
+}
+
+/* Files and domains that are not there, and answers about globs, which are about no rule. */
+static void no_rules(void) {
+    globset_glob *glob = glob_of("a", 0);
+    globset_ignore *ignore;
+    globset_answers *answers = (globset_answers *)glob;
+    CHECK(globset_ignore_new(0, &ignore) == GLOBSET_OK);
+    CHECK(globset_ignore_unreachable(ignore, 0, 0, LIMIT, &answers) == GLOBSET_EINDEX && answers == NULL);
+    CHECK(globset_ignore_add_file(ignore, TEXT("a")) == GLOBSET_OK);
+    CHECK(globset_ignore_unreachable(ignore, 1, 1, LIMIT, &answers) == GLOBSET_EINDEX);
+    CHECK(globset_ignore_unreachable(ignore, SIZE_MAX, 1, LIMIT, &answers) == GLOBSET_EINDEX);
+    CHECK(globset_ignore_unreachable(ignore, 0, 2, LIMIT, &answers) == GLOBSET_EOPTIONS && answers == NULL);
+    CHECK(globset_ignore_unreachable(ignore, 0, UINT32_MAX, LIMIT, &answers) == GLOBSET_EOPTIONS);
+    CHECK(globset_overlap(glob, glob, 0, LIMIT, &answers) == GLOBSET_OK && has_no_rule(answers, 0));
+    globset_answers_free(answers);
+    globset_ignore_free(ignore);
+    globset_glob_free(glob);
+}
+
 /* Numbers that stand for no domain or choice. */
 static void unknown_numbers(void) {
     globset_glob *glob = glob_of("a", 0);
@@ -157,6 +279,8 @@ int main(void) {
     coverings();
     overlaps();
     never();
+    never_of_files();
+    no_rules();
     unknown_numbers();
     puts("relations: passed");
     return 0;

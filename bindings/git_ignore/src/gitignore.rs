@@ -11,17 +11,21 @@
 
 use std::{
     borrow::Cow,
+    ffi::OsString,
     fmt, fs,
-    os::unix::ffi::OsStrExt,
+    os::unix::ffi::{OsStrExt, OsStringExt},
     path::{Component, Path, PathBuf},
-    sync::{Arc, Mutex, PoisonError},
+    sync::{Arc, Mutex, MutexGuard, PoisonError},
 };
 
-use globset::ignore::{By, IgnoreStack};
+use globset::{
+    ignore::{self, By, IgnoreStack},
+    relations::Domain,
+};
 
 use crate::{
     line::{self, Parts},
-    Error, Match,
+    Error, Match, Reachability,
 };
 
 /// A rule: a line of an ignore file that has a pattern.
@@ -100,6 +104,18 @@ impl Glob {
     /// Whether the pattern is for directories alone.
     pub fn is_only_dir(&self) -> bool {
         self.is_only_dir
+    }
+}
+
+impl Rules {
+    /// The walk. A call that ended in a panic left it in its top directory.
+    fn stack(&self) -> MutexGuard<'_, IgnoreStack> {
+        self.stack.lock().unwrap_or_else(PoisonError::into_inner)
+    }
+
+    /// The rule of a line of the file. The first rule is on the second line.
+    fn glob(&self, line: usize) -> &Glob {
+        &self.globs[line - 2]
     }
 }
 
@@ -183,16 +199,45 @@ impl Gitignore {
         self.decided(&self.below_root(path.as_ref()), is_dir, By::Git)
     }
 
+    /// For each rule, in order, whether it ever decides about a path below the root as [`Gitignore::matched_by_git`] does. Paths
+    /// are relative, without components that are empty, `.` or `..`, or have a NUL. It is an addition to the crate `ignore`.
+    ///
+    /// Each rule takes a few searches, and `limit` is how many rows a search may have: 100,000 are enough for most files. The module
+    /// `relations` of the crate globset says what a row is, and how much memory the searches take.
+    ///
+    /// ```
+    /// use git_ignore::{gitignore::GitignoreBuilder, Reachability};
+    ///
+    /// let mut builder = GitignoreBuilder::new("");
+    /// builder.add_line(None, "/src")?.add_line(None, "!/src/a")?;
+    /// let gitignore = builder.build()?;
+    /// let rules = gitignore.unreachable(100_000);
+    /// assert!(matches!(&rules[0].1, Reachability::Decides(path) if path.as_os_str() == "src"));
+    /// assert!(matches!(rules[1].1, Reachability::BelowIgnored(rule) if rule.original() == "/src"));
+    /// # Ok::<(), git_ignore::Error>(())
+    /// ```
+    pub fn unreachable(&self, limit: usize) -> Vec<(&Glob, Reachability<&Glob>)> {
+        let glob = |line| self.rules.glob(line);
+        let told = self.rules.stack().unreachable(0, Domain::RelativePaths, limit).unwrap_or_default();
+        let rules = told.into_iter().map(|(line, told)| {
+            let reachability = match told {
+                ignore::Reachability::Decides(path) => Reachability::Decides(OsString::from_vec(path).into()),
+                ignore::Reachability::Never(lines) => Reachability::Never(lines.into_iter().map(glob).collect()),
+                ignore::Reachability::BelowIgnored(line) => Reachability::BelowIgnored(glob(line)),
+                ignore::Reachability::Unknown => Reachability::Unknown,
+            };
+            (glob(line), reachability)
+        });
+        rules.collect()
+    }
+
     /// The rule that decides about a path that [`Gitignore::below_root`] returned.
     fn decided(&self, path: &Path, is_dir: bool, by: By) -> Match<&Glob> {
         if self.is_empty() || path.has_root() || path.as_os_str().is_empty() {
             return Match::None;
         }
-        // A call that ended in a panic left the walk in its top directory.
-        let mut stack = self.rules.stack.lock().unwrap_or_else(PoisonError::into_inner);
-        let Some(rule) = stack.decide(path, is_dir, by) else { return Match::None };
-        // The first rule is on the second line.
-        let glob = &self.rules.globs[rule.line - 2];
+        let Some(rule) = self.rules.stack().decide(path, is_dir, by) else { return Match::None };
+        let glob = self.rules.glob(rule.line);
         if rule.is_ignored {
             Match::Ignore(glob)
         } else {

@@ -22,8 +22,9 @@ mod error;
 pub mod gitignore;
 mod line;
 mod matched;
+mod reachability;
 
-pub use crate::{error::Error, matched::Match};
+pub use crate::{error::Error, matched::Match, reachability::Reachability};
 
 /// The examples of `README.md`.
 #[cfg(doctest)]

@@ -50,6 +50,14 @@ pub(crate) fn parts(line: &[u8]) -> Option<Parts<'_>> {
 #[cfg(test)]
 mod tests {
     use super::*;
+    use globset::ignore::IgnoreStack;
+
+    /// The text of a line, as the library says it.
+    fn told(line: &[u8]) -> Option<Vec<u8>> {
+        let mut stack = IgnoreStack::new();
+        stack.add_file([b"\n", line].concat());
+        stack.line_text(0, 2)
+    }
 
     #[test]
     fn what_git_removes_at_the_end_of_a_line() {
@@ -70,7 +78,7 @@ mod tests {
             (b"  ", b""),
         ];
         for (line, wanted) in rows {
-            assert_eq!(text(line), wanted, "{line:?}");
+            assert_eq!((text(line), told(line).as_deref()), (wanted, Some(wanted)), "{line:?}");
         }
     }
 

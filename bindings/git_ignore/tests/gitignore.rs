@@ -5,7 +5,7 @@ use std::{env, fs, path::Path, path::PathBuf, process, thread};
 
 use git_ignore::{
     gitignore::{Gitignore, GitignoreBuilder, Glob},
-    Error, Match,
+    Error, Match, Reachability,
 };
 
 fn builder(root: &str, lines: &[&str]) -> GitignoreBuilder {
@@ -45,6 +45,41 @@ fn each_call_has_its_rule() {
         assert_eq!(line(&matcher.matched_by_git(path, is_dir)), by_git, "{path}");
     }
     assert!(matcher.matched("src/a", true).is_whitelist() && matcher.matched_by_git("src/a", true).is_ignore());
+}
+
+#[test]
+fn rules_never_decide() {
+    let lines = ["*.log", "# a", "!kept.log", "/src", "!/src/a", "[ab]c", "//d", "ac", "", "bc", "*.log"];
+    let matcher = matcher("/r", &lines);
+    let told = |limit| {
+        let rules = matcher.unreachable(limit).into_iter().map(|(glob, told)| {
+            let told = match told {
+                Reachability::Decides(path) => format!("decides {}", path.display()),
+                Reachability::Never(mut rules) => {
+                    rules.sort_by_key(|rule| rule.original());
+                    rules.iter().fold("never".to_string(), |said, rule| said + " " + rule.original())
+                }
+                Reachability::BelowIgnored(rule) => format!("below {}", rule.original()),
+                Reachability::Unknown => "unknown".to_string(),
+            };
+            format!("{}: {told}", glob.original())
+        });
+        rules.collect::<Vec<_>>()
+    };
+    let wanted = [
+        "*.log: never *.log",
+        "!kept.log: never *.log",
+        "/src: decides src",
+        "!/src/a: below /src",
+        "[ab]c: never ac bc",
+        "//d: never",
+        "ac: decides ac",
+        "bc: decides bc",
+        "*.log: decides .log",
+    ];
+    assert_eq!(told(100_000), wanted);
+    assert!(told(0).iter().all(|rule| rule.ends_with(": unknown")));
+    assert!(Gitignore::empty().unreachable(9).is_empty());
 }
 
 #[test]

@@ -13,13 +13,15 @@ from typing import Any, Callable, Deque, Iterable, List, Optional, Tuple, Type, 
 
 from . import _library
 from ._errors import glob_error
-from ._library import Indexes, Lent, Object, Searcher, Told
+from ._library import Lent, Object, RuleTold, Searcher, Told
 
 Path = Union[str, bytes, "os.PathLike[str]", "os.PathLike[bytes]"]
 
 _AnyPath = TypeVar("_AnyPath", bound=Path)
 _AnyGlob = TypeVar("_AnyGlob", bound="GlobBase")
 _AnySet = TypeVar("_AnySet", bound="GlobSetBase")
+_Lent = TypeVar("_Lent", bound=ctypes.Structure)
+_Copy = TypeVar("_Copy")
 
 
 class GlobBase:
@@ -293,20 +295,21 @@ class IgnoreFiles:
 
     def unread_lines(self, file: int, /) -> List[int]:
         """Returns the numbers of the lines of a file that cannot be read, by its index."""
-        none = (ctypes.c_size_t * 1)()
-        lines = Indexes(ctypes.addressof(none), 0)
-        with self._turn:
-            self._refuse_if_lent()
-            self._is_lent = True
-            try:
-                status = _library.ignore_unread_lines(self._at, file, ctypes.byref(lines))
-                copied = ctypes.cast(lines.at, ctypes.POINTER(ctypes.c_size_t))[: lines.count] if lines.count else []
-            finally:
-                self._is_lent = False
-        if status == _library.BAD_INDEX:
-            raise IndexError("there is no ignore file of this index")
-        _library.raise_unless_done(status)
-        return copied
+        return self._copied(_library.ignore_unread_lines, (file,), _library.no_indexes(), _library.numbers_of)
+
+    def line_text(self, file: int, line: int, /) -> bytes:
+        """Returns the text of a line, by the index of its file and its number."""
+        return self._copied(_library.ignore_line_text, (file, line), _library.no_bytes(), _library.bytes_of)
+
+    def unreachable(self, file: int, domain: int, limit: int, /) -> Tuple[List[int], List[RuleTold]]:
+        """Returns the numbers of the lines of the rules of a file, and what is told of each rule, which names rules by indexes.
+
+        It is a shortest path about which the rule decides, the indexes of rules that cover it, or None at the limit. If each path
+        about which it would decide lies below an ignored directory, it is the index of a rule that ignores one.
+        """
+        answers = _library.Answers(partial(self._call, _library.ignore_unreachable, file, domain, limit))
+        lines = answers.lines()
+        return lines, [answers.told_of_rule(index) for index in range(len(lines))]
 
     def _answers(self, parts: List[bytes], by: int) -> bytes:
         """Returns a byte for each path: 1 if it is ignored, 2 if it is kept, and 0 if no rule decides."""
@@ -325,6 +328,19 @@ class IgnoreFiles:
         with self._turn:
             self._refuse_if_lent()
             return call(self._at, *arguments)
+
+    def _copied(self, call: Callable[..., int], which: Tuple[int, ...], lent: _Lent, copy: Callable[[_Lent], _Copy]) -> _Copy:
+        """Returns a copy of what a call of the library lends."""
+        with self._turn:
+            self._refuse_if_lent()
+            self._is_lent = True
+            try:
+                status = call(self._at, *which, ctypes.byref(lent))
+                copied = copy(lent)
+            finally:
+                self._is_lent = False
+        _library.raise_unless_done(status)
+        return copied
 
     def _refuse_if_lent(self) -> None:
         if self._is_lent:

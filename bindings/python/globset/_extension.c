@@ -21,6 +21,7 @@ enum { BLOCK = 1024 };
 
 static PyObject *raise_status(globset_status status) {
     if (status == GLOBSET_OUT_OF_MEMORY) return PyErr_NoMemory();
+    if (status == GLOBSET_BAD_INDEX) return PyErr_Format(PyExc_IndexError, "there is no ignore file or line of this index");
     return PyErr_Format(PyExc_RuntimeError, "globset: a call returned the status %u", (unsigned int)status);
 }
 
@@ -648,6 +649,8 @@ static PyMethodDef ignore_methods[] = {
     {"rules_many", ignore_rules_many, METH_VARARGS, IGNORE_RULES_MANY},
     {"filter", ignore_filter, METH_VARARGS, IGNORE_FILTER},
     {"unread_lines", ignore_unread_lines, METH_O, IGNORE_UNREAD_LINES},
+    {"line_text", ignore_line_text, METH_VARARGS, IGNORE_LINE_TEXT},
+    {"unreachable", ignore_unreachable, METH_VARARGS, IGNORE_UNREACHABLE},
     {NULL, NULL, 0, NULL},
 };
 

@@ -287,13 +287,65 @@ static PyObject *ignore_unread_lines(PyObject *object, PyObject *number) {
     if (copied) memcpy(copied, lines.at, lines.count * sizeof *copied);
     end_turn(self);
     PyObject *list = NULL;
-    if (status == GLOBSET_BAD_INDEX) {
-        PyErr_SetString(PyExc_IndexError, "there is no ignore file of this index");
-    } else if (status != GLOBSET_DONE) {
+    if (status != GLOBSET_DONE) {
         raise_status(status);
     } else {
         list = copied ? list_of(copied, lines.count) : PyErr_NoMemory();
     }
     free(copied);
     return list;
+}
+
+/* The text is lent and copied as the lines are. */
+static PyObject *ignore_line_text(PyObject *object, PyObject *arguments) {
+    static const uint8_t none[1] = {0};
+    struct ignore_files *self = (struct ignore_files *)object;
+    Py_ssize_t file, line;
+    if (!PyArg_ParseTuple(arguments, "nn:line_text", &file, &line)) return NULL;
+    globset_bytes text = {none, 0};
+    begin_turn(self);
+    globset_status status = globset_raw_ignore_line_text(&self->ignore, (size_t)file, (size_t)line, &text);
+    char *copied = malloc(text.count + 1);
+    if (copied) memcpy(copied, text.at, text.count);
+    end_turn(self);
+    PyObject *bytes = NULL;
+    if (status != GLOBSET_DONE) {
+        raise_status(status);
+    } else {
+        bytes = copied ? PyBytes_FromStringAndSize(copied, (Py_ssize_t)text.count) : PyErr_NoMemory();
+    }
+    free(copied);
+    return bytes;
+}
+
+/* The lines of the rules that answers are about, and what each answer tells. */
+static PyObject *told_of_rules(globset_owned *answers) {
+    static const size_t none[1] = {0};
+    globset_indexes lines = {none, 0};
+    globset_status status = globset_raw_answers_lines(answers, &lines);
+    if (status != GLOBSET_DONE) return raise_status(status);
+    PyObject *list = list_of(lines.at, lines.count);
+    PyObject *each = list ? told_each(answers, lines.count) : NULL;
+    if (each) return Py_BuildValue("NN", list, each);
+    Py_XDECREF(list);
+    return NULL;
+}
+
+/* Releases the interpreter's lock while it searches. */
+static PyObject *ignore_unreachable(PyObject *object, PyObject *arguments) {
+    struct ignore_files *self = (struct ignore_files *)object;
+    Py_ssize_t file, limit;
+    unsigned int domain;
+    if (!PyArg_ParseTuple(arguments, "nIn:unreachable", &file, &domain, &limit)) return NULL;
+    globset_owned answers;
+    globset_status status;
+    begin_turn(self);
+    Py_BEGIN_ALLOW_THREADS
+    status = globset_raw_ignore_unreachable(&self->ignore, (size_t)file, domain, (size_t)limit, &answers);
+    Py_END_ALLOW_THREADS
+    end_turn(self);
+    if (status != GLOBSET_DONE) return raise_status(status);
+    PyObject *told = told_of_rules(&answers);
+    globset_raw_free(answers);
+    return told;
 }

@@ -11,6 +11,7 @@ DONE, NO, YES, OUT_OF_MEMORY, REJECTED = range(5)
 TOO_SMALL = 9
 LIMIT_REACHED = 10
 BAD_INDEX = 11
+BELOW_IGNORED = 12
 
 # GLOBSET_INTERFACE of the header that this file was written after.
 INTERFACE = 1
@@ -40,13 +41,13 @@ class Error(ctypes.Structure):
 
 
 class Bytes(ctypes.Structure):
-    """globset_bytes: bytes that answers lend."""
+    """globset_bytes: bytes that answers or ignore files lend."""
 
     _fields_ = [("at", ctypes.c_void_p), ("count", ctypes.c_size_t)]
 
 
 class Indexes(ctypes.Structure):
-    """globset_indexes: indexes that a searcher or answers lend, or lines that ignore files lend."""
+    """globset_indexes: indexes or numbers of lines that a searcher, answers or ignore files lend."""
 
     _fields_ = [("at", ctypes.c_void_p), ("count", ctypes.c_size_t)]
 
@@ -119,6 +120,9 @@ ignore_rules_many = _declare(
     "raw_ignore_rules_many", _OWNED, _BYTES, _SIZE, ctypes.c_void_p, _SIZE, _NUMBER, ctypes.c_void_p, _SIZE
 )
 ignore_unread_lines = _declare("raw_ignore_unread_lines", _OWNED, _SIZE, _INDEXES)
+ignore_line_text = _declare("raw_ignore_line_text", _OWNED, _SIZE, _SIZE, _LENT_BYTES)
+ignore_unreachable = _declare("raw_ignore_unreachable", _OWNED, _SIZE, _NUMBER, _SIZE, _OWNED)
+answers_lines = _declare("raw_answers_lines", _OWNED, _INDEXES)
 escape = _declare("raw_escape", _BYTES, _SIZE, *_ROOM)
 version = _declare("version")
 _free = _declare("raw_free", Owned, result=None)
@@ -133,13 +137,33 @@ class Object(Owned):
             free(self)
 
 
+# Where a place points that has nothing: it has to be valid before a call that writes it.
+_NONE = (ctypes.c_size_t * 1)()
+_NONE_AT = ctypes.addressof(_NONE)
+
+
+def no_bytes() -> Bytes:
+    return Bytes(_NONE_AT, 0)
+
+
+def no_indexes() -> Indexes:
+    return Indexes(_NONE_AT, 0)
+
+
+def bytes_of(lent: Bytes) -> bytes:
+    """Returns a copy of bytes that are lent."""
+    return ctypes.string_at(lent.at, lent.count) if lent.count else b""
+
+
+def numbers_of(lent: Indexes) -> List[int]:
+    """Returns a copy of numbers that are lent."""
+    return ctypes.cast(lent.at, ctypes.POINTER(ctypes.c_size_t))[: lent.count] if lent.count else []
+
+
 class Searcher:
     """What one call on a set uses at a time: a searcher of the library, and places for results."""
 
     __slots__ = ("_object", "_count", "_count_at", "_indexes", "_indexes_at", "_found", "at")
-
-    _NONE = (ctypes.c_size_t * 1)()
-    _NONE_AT = ctypes.addressof(_NONE)
 
     def __init__(self, set_at: int) -> None:
         self._object = Object()
@@ -158,13 +182,15 @@ class Searcher:
         if not self._count:
             return []
         indexes = self._indexes
-        # The place for indexes has to be valid before a call that writes them.
-        indexes.at, indexes.count = self._NONE_AT, 0
+        indexes.at, indexes.count = _NONE_AT, 0
         raise_unless_done(searcher_found(self.at, self._indexes_at))
         return self._found[: indexes.count]
 
 
+# What an answer tells: a path, indexes, or nothing where the limit was reached. One about a rule may tell the index of a rule
+# that ignores a directory.
 Told = Union[bytes, Tuple[int, ...], None]
+RuleTold = Union[Told, int]
 
 
 class Answers:
@@ -175,20 +201,31 @@ class Answers:
         raise_unless_done(ask(ctypes.byref(self._object)))
 
     def told(self, index: int) -> Told:
-        """Returns what the answer of an index tells: a path, the indexes of globs, or nothing where the limit was reached."""
-        none = (ctypes.c_size_t * 1)()
-        # The places have to be valid before a call that writes them.
-        path, indexes = Bytes(ctypes.addressof(none), 0), Indexes(ctypes.addressof(none), 0)
+        """Returns what the answer of an index tells, which is about no rule."""
+        told = self.told_of_rule(index)
+        if isinstance(told, int):
+            raise failure(BELOW_IGNORED)
+        return told
+
+    def told_of_rule(self, index: int) -> RuleTold:
+        """Returns what the answer of an index tells, which may be about a rule."""
+        path, indexes = no_bytes(), no_indexes()
         status = answers_at(ctypes.byref(self._object), index, ctypes.byref(path), ctypes.byref(indexes))
         if status == LIMIT_REACHED:
             return None
         if status == YES:
-            return ctypes.string_at(path.at, path.count) if path.count else b""
-        if status != NO:
-            raise failure(status)
-        if not indexes.count:
-            return ()
-        return tuple(ctypes.cast(indexes.at, ctypes.POINTER(ctypes.c_size_t))[: indexes.count])
+            return bytes_of(path)
+        if status == NO:
+            return tuple(numbers_of(indexes))
+        if status == BELOW_IGNORED:
+            return numbers_of(indexes)[0]
+        raise failure(status)
+
+    def lines(self) -> List[int]:
+        """Returns the numbers of the lines of the rules that the answers are about."""
+        lines = no_indexes()
+        raise_unless_done(answers_lines(ctypes.byref(self._object), ctypes.byref(lines)))
+        return numbers_of(lines)
 
 
 def lend_all(addresses: Sequence[int]) -> Any:
@@ -201,6 +238,8 @@ def failure(status: int) -> Exception:
     """Returns the exception for a status that is no answer."""
     if status == OUT_OF_MEMORY:
         return MemoryError()
+    if status == BAD_INDEX:
+        return IndexError("there is no ignore file or line of this index")
     return RuntimeError(f"globset: a call returned the status {status}")
 
 

@@ -36,7 +36,8 @@ static int lend_globs(PyObject *module, PyObject *globs, struct lents *lents) {
     return 0;
 }
 
-/* What the answer of an index tells: a path, the indexes of globs, or None where the limit was reached. */
+/* What the answer of an index tells: a path, the indexes of globs or rules, None where the limit was reached, or the index of a
+ * rule that ignores a directory. */
 static PyObject *told(globset_owned *answers, size_t index) {
     static const size_t none[1] = {0};
     globset_bytes path = {(const uint8_t *)none, 0};
@@ -44,11 +45,22 @@ static PyObject *told(globset_owned *answers, size_t index) {
     globset_status status = globset_raw_answers_at(answers, index, &path, &indexes);
     if (status == GLOBSET_LIMIT_REACHED) return Py_NewRef(Py_None);
     if (status == GLOBSET_YES) return PyBytes_FromStringAndSize((const char *)path.at, (Py_ssize_t)path.count);
+    if (status == GLOBSET_BELOW_IGNORED) return PyLong_FromSize_t(indexes.at[0]);
     if (status != GLOBSET_NO) return raise_status(status);
     PyObject *list = list_of(indexes.at, indexes.count);
     PyObject *tuple = list ? PyList_AsTuple(list) : NULL;
     Py_XDECREF(list);
     return tuple;
+}
+
+/* What each of so many answers tells. */
+static PyObject *told_each(globset_owned *answers, size_t count) {
+    PyObject *list = PyList_New((Py_ssize_t)count);
+    for (size_t i = 0; list && i < count; i++) {
+        PyObject *answer = told(answers, i);
+        if (!answer || PyList_SetItem(list, (Py_ssize_t)i, answer) < 0) Py_CLEAR(list);
+    }
+    return list;
 }
 
 /* Ends a call that made one answer. */
@@ -109,11 +121,7 @@ static PyObject *unreachable(PyObject *module, PyObject *arguments) {
     Py_END_ALLOW_THREADS
     free(lents.at);
     if (status != GLOBSET_DONE) return raise_status(status);
-    PyObject *list = PyList_New((Py_ssize_t)lents.count);
-    for (size_t i = 0; list && i < lents.count; i++) {
-        PyObject *answer = told(&answers, i);
-        if (!answer || PyList_SetItem(list, (Py_ssize_t)i, answer) < 0) Py_CLEAR(list);
-    }
+    PyObject *list = told_each(&answers, lents.count);
     globset_raw_free(answers);
     return list;
 }

@@ -162,6 +162,18 @@ class IgnoreRules(_Decides):
         """
         return self._files.unread_lines(0)
 
+    def line_text(self, line: int) -> str:
+        """Returns the text of a line by its number, as ``git check-ignore -v`` prints that of a rule.
+
+        It is without what git removes at the end of a line, and is a ``str`` like those of ``os.fsdecode``: bytes that are not
+        UTF-8 are surrogates in it. Raises ``IndexError`` if there is no such line. It takes a pass over the file up to the line.
+
+        >>> rules = IgnoreRules("# objects\\n*.o  \\n")
+        >>> rules.line_text(rules.decide("a.o").line)
+        '*.o'
+        """
+        return _text_of(self._files.line_text(0, _index_of(line)))
+
     def __eq__(self, other: object) -> bool:
         if not isinstance(other, IgnoreRules):
             return NotImplemented
@@ -236,9 +248,21 @@ class IgnoreStack(_Decides):
         >>> walk.unread_lines(0)
         [2]
         """
-        if file < 0:
-            raise IndexError("there is no ignore file of this index")
-        return self._files.unread_lines(min(file, sys.maxsize))
+        return self._files.unread_lines(_index_of(file))
+
+    def line_text(self, file: int, line: int) -> str:
+        """Returns the text of a line, by the index of its file and its number, as ``Decision`` has them.
+
+        It is that of ``IgnoreRules.line_text``. Raises ``IndexError`` if there is no such file or line.
+
+        >>> walk = IgnoreStack()
+        >>> walk.add_file("*.log")
+        >>> walk.add_file(["", "!kept.log"])
+        >>> decision = walk.decide("kept.log")
+        >>> walk.line_text(decision.file, decision.line)
+        '!kept.log'
+        """
+        return _text_of(self._files.line_text(_index_of(file), _index_of(line)))
 
     def __reduce__(self) -> NoReturn:
         raise TypeError(f"{type(self).__name__} cannot be copied or pickled")
@@ -253,6 +277,17 @@ def _decision_of(decided: Optional[Tuple[bool, int, int]]) -> Optional[Decision]
         return None
     is_ignored, file, line = decided
     return Decision(file, line, not is_ignored)
+
+
+def _index_of(number: int) -> int:
+    """Returns an index of a file or a number of a line as the library takes it."""
+    if number < 0:
+        raise IndexError("there is no ignore file or line of this index")
+    return min(number, sys.maxsize)
+
+
+def _text_of(data: bytes) -> str:
+    return data.decode("utf-8", "surrogateescape")
 
 
 def _number_of(by: str) -> int:

@@ -1,4 +1,4 @@
-"""Questions about all paths at once: whether globs cover a glob, whether two globs overlap, and which globs never decide.
+"""Questions about all paths at once: whether globs cover a glob, whether two overlap, and which globs or rules never decide.
 
 An answer that is about one path has a shortest such path, and the others hold for each path of a ``Domain``. Globs match as
 ``Glob.match`` does, also those that match nothing in a ``GlobSet``. Where a glob is asked for, a ``str`` is read as one under the
@@ -21,15 +21,19 @@ import enum
 import sys
 from typing import TYPE_CHECKING, Iterable, List, NamedTuple, Optional, Tuple, Union
 
-from . import Glob, _read_globs
+from . import Glob, IgnoreRules, IgnoreStack, _read_globs
+from .ignore import _index_of, _text_of
 
 if TYPE_CHECKING:
     from . import _by_ctypes as _binding
-    from ._library import Told
+    from ._library import RuleTold, Told
 else:
     from ._choice import binding as _binding
 
-__all__ = ["Coverage", "Decides", "Domain", "Intersection", "Reachability", "covering", "overlap", "unreachable"]
+__all__ = [
+    *("Coverage", "Decides", "Domain", "Intersection", "Reachability", "RuleReachability"),
+    *("covering", "overlap", "unreachable", "unreachable_rules"),
+]
 
 
 class Domain(enum.Enum):
@@ -83,6 +87,24 @@ class Reachability(NamedTuple):
     cover: Optional[Tuple[int, ...]]
 
 
+class RuleReachability(NamedTuple):
+    """Whether a rule of an ignore file ever decides, by git's rule. Rules are named by the numbers of their lines, from 1.
+
+    ``line`` is that of the rule. If it decides, ``path`` is a shortest path about which it does. If it does not, one of the
+    others says why. ``cover`` has the lines of later rules that cover it together. None of them can be left out. It is one line
+    if one of them covers the rule alone, and none if the rule matches no path of the domain. ``below_ignored`` is the line of a
+    rule that ignores a directory: each path about which this rule would decide lies below an ignored directory.
+
+    All but ``line`` are ``None`` if a search has more rows than its limit.
+    """
+
+    line: int
+    decides: Optional[bool]
+    path: Optional[str]
+    cover: Optional[Tuple[int, ...]]
+    below_ignored: Optional[int]
+
+
 _AnyGlob = Union[str, Glob]
 
 
@@ -131,6 +153,31 @@ def unreachable(
     return [_reachability(told) for told in answers]
 
 
+def unreachable_rules(
+    rules: Union[IgnoreRules, IgnoreStack],
+    file: int = 0,
+    *,
+    domain: Domain = Domain.RELATIVE_PATHS,
+    limit: int = 100_000,
+) -> List[RuleReachability]:
+    """Returns for each rule of an ignore file, in order, whether it ever decides by git's rule, if there were no other file.
+
+    The file is that of an index, as ``Decision`` has it, and paths begin in its directory. Raises ``IndexError`` if there is no
+    such file. Each rule takes a few searches. Each search has the limit. Other calls with ``rules`` wait until it has ended.
+
+    >>> for rule in unreachable_rules(IgnoreRules(["*.log", "/src", "!/src/a", "*.log"])):
+    ...     print(rule)
+    RuleReachability(line=1, decides=False, path=None, cover=(4,), below_ignored=None)
+    RuleReachability(line=2, decides=True, path='src', cover=None, below_ignored=None)
+    RuleReachability(line=3, decides=False, path=None, cover=None, below_ignored=2)
+    RuleReachability(line=4, decides=True, path='.log', cover=None, below_ignored=None)
+    """
+    if not isinstance(rules, (IgnoreRules, IgnoreStack)):
+        raise TypeError(f"rules are IgnoreRules or IgnoreStack, not {type(rules).__name__}")
+    lines, answers = rules._files.unreachable(_index_of(file), domain.value, _limit_of(limit))
+    return [_rule_reachability(line, told, lines) for line, told in zip(lines, answers)]
+
+
 def _glob_of(glob: _AnyGlob) -> Glob:
     return glob if isinstance(glob, Glob) else Glob(glob)
 
@@ -162,5 +209,11 @@ def _reachability(told: Told) -> Reachability:
     return Reachability(False, None, told)
 
 
-def _text_of(path: bytes) -> str:
-    return path.decode("utf-8", "surrogateescape")
+def _rule_reachability(line: int, told: RuleTold, lines: List[int]) -> RuleReachability:
+    if told is None:
+        return RuleReachability(line, None, None, None, None)
+    if isinstance(told, bytes):
+        return RuleReachability(line, True, _text_of(told), None, None)
+    if isinstance(told, int):
+        return RuleReachability(line, False, None, None, lines[told])
+    return RuleReachability(line, False, None, tuple(lines[index] for index in told), None)

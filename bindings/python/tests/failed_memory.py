@@ -7,7 +7,7 @@ Each call has to raise MemoryError or to answer as it does otherwise, and all ob
 import os
 
 from globset import Glob, GlobError, GlobSet, IgnoreRules, IgnoreStack, escape
-from globset.relations import covering, overlap, unreachable
+from globset.relations import covering, overlap, unreachable, unreachable_rules
 
 PATHS = ["src/a.py", b"b.c", "README", "a" * 300] * 600
 LINES = ["*.py", "!keep.py", "/src/**/[ab]*", "build/", "[a"]
@@ -58,11 +58,13 @@ CALLS = {
     "covering": lambda: covering("src/**/[ab]*.py", PATTERNS),
     "overlap": lambda: overlap("a*", "*b"),
     "unreachable": lambda: unreachable(PATTERNS),
+    "unreachable_rules": on_ignore(unreachable_rules),
     "IgnoreRules.decide": on_ignore(lambda rules: rules.decide("src/a/b/a.py", by="nearest")),
     "IgnoreRules.decide_many": on_ignore(lambda rules: rules.decide_many(PATHS)),
     "IgnoreRules.rules_many": on_ignore(lambda rules: rules.rules_many(PATHS)),
     "IgnoreRules.filter": on_ignore(lambda rules: rules.filter(PATHS)),
     "IgnoreRules.unread_lines": on_ignore(lambda rules: rules.unread_lines()),
+    "IgnoreRules.line_text": on_ignore(lambda rules: rules.line_text(3)),
     "IgnoreStack": in_walk,
 }
 

@@ -19,14 +19,15 @@ import threading
 import weakref
 
 import globset
-from globset import Glob, GlobError, GlobSet, IgnoreRules, IgnoreStack, escape
+from globset import Glob, GlobError, GlobSet, IgnoreRules, IgnoreStack, escape, relations
 
 PATTERNS = ["*.py", "src/**", "{a,b}*", "[a-c]?", "**", "a\\*", "é*", "*a*b*c", "", "x" * 300, "**/..", "[!x]*"]
 REJECTED = ["[a", "[z-a]", "a}", "{a", "\\", "\udc80", "a\ud800"]
 PATHS = ["a.py", "src/a", "", "b", "abc", "a\0b", "é", "a/b/c/d.py", "\udcff", "\ud800", b"a.py", b"\xff\0", b"", "a" * 5000]
 MANY = ["match_many", "matches_many", "filter"]
 LINES = ["*.py", "!a.py", "src/", "/b/**", "# text", "", "[a", "a\\", "[!x]*", b"\xff", "é?\r\n"]
-IGNORE_METHODS = ["is_ignored", "decide", "decide_many", "rules_many", "filter", "unread_lines", "add_file", "enter", "leave"]
+IGNORE_METHODS = ["is_ignored", "decide", "decide_many", "rules_many", "filter", "unread_lines", "line_text"]
+IGNORE_METHODS += ["add_file", "enter", "leave"]
 METHODS = ["match", "matches", "matches_all", "can_match_below", *MANY, "regex", "pattern", "globs"]
 THREADS = 8
 # How deep calls within calls go.
@@ -85,7 +86,7 @@ class Misuse:
             return
         self.depth += 1
         try:
-            asks = [self.ask, self.ask, self.ask, self.ask, self.ask, self.ask_ignore, self.ask_ignore]
+            asks = [self.ask, self.ask, self.ask, self.ask, self.ask, self.ask_ignore, self.ask_ignore, self.relate_ignore]
             self.rng.choice([*asks, self.make, self.make, self.make_ignore, self.drop, self.wrong])()
             self.answers += 1
         except RecursionError:
@@ -125,7 +126,8 @@ class Misuse:
             "decide_many": lambda: [self.paths(), *by],
             "rules_many": lambda: [self.paths(), *by],
             "filter": lambda: [self.paths(), *by],
-            "unread_lines": lambda: [self.rng.choice([0, 0, 1, 3, -1, 2**64, self.path()])] * isinstance(ignore, IgnoreStack),
+            "unread_lines": lambda: self.numbers(isinstance(ignore, IgnoreStack)),
+            "line_text": lambda: self.numbers(1 + isinstance(ignore, IgnoreStack)),
             "add_file": lambda: [self.lines()],
             "enter": lambda: [self.rng.choice(["a", "b/c", b"\xff", self.path()])],
             "leave": list,
@@ -135,6 +137,15 @@ class Misuse:
         if name in ("add_file", "enter") and isinstance(ignore, IgnoreStack):
             for _ in range(self.rng.randrange(4)):
                 ignore.leave()
+
+    def numbers(self, count):
+        """Returns what may stand where so many indexes are wanted."""
+        return [self.rng.choice([0, 0, 1, 3, -1, 2**64, self.path()]) for _ in range(count)]
+
+    def relate_ignore(self):
+        domain = self.rng.choice([*relations.Domain, self.path()])
+        ignore = self.one_ignore() if self.chance(0.9) else self.path()
+        relations.unreachable_rules(ignore, *self.numbers(self.rng.randrange(2)), domain=domain, limit=self.rng.randrange(99))
 
     def make_ignore(self):
         if self.chance(0.2):
@@ -146,7 +157,8 @@ class Misuse:
         else:
             files = globset._binding.IgnoreFiles(self.rng.randrange(3))
             arguments = [self.path() for _ in range(self.rng.randrange(4))]
-            names = ["add_file", "enter", "decide", "decide_many", "rules_many", "filter", "unread_lines"]
+            names = ["add_file", "enter", "decide", "decide_many", "rules_many", "filter", "unread_lines", "line_text"]
+            names.append("unreachable")
             getattr(files, self.rng.choice(names))(*arguments)
 
     def make(self):

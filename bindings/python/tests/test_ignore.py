@@ -3,6 +3,7 @@
 import copy
 import doctest
 import gc
+import itertools
 import os
 import pathlib
 import pickle
@@ -18,6 +19,7 @@ from unittest import mock
 import globset
 from globset import IgnoreRules, IgnoreStack, ignore
 from globset.ignore import Decision
+from globset.relations import unreachable_rules
 from test_globset import IS_CTYPES, TextPath
 
 # Lines, a path, and the decision by git's rule, by the nearest decision, and about the path alone: the line, which is negative if
@@ -128,6 +130,14 @@ class Rules(unittest.TestCase):
         self.assertEqual(IgnoreRules("").unread_lines(), [])
         self.assertFalse(IgnoreRules("[a").is_ignored("[a"))
 
+    def test_line_text(self):
+        rules = IgnoreRules(b"\xef\xbb\xbf*.o\r\n\n# text  \n!a\\ \\b  \n[c\n/d\0e\n\xff \n\xc3\xa9")
+        texts = ["*.o", "", "# text", "!a\\ \\b", "[c", "/d", "\udcff", "é"]
+        self.assertEqual([rules.line_text(line) for line in range(1, 9)], texts)
+        for line in [0, 9, -1, 2**63]:
+            self.assertRaises(IndexError, rules.line_text, line)
+        self.assertEqual(IgnoreRules("").line_text(1), "")
+
     def test_copies(self):
         rules = IgnoreRules(["a", "b"], ignore_case=True)
         self.assertEqual(rules, IgnoreRules("a\nb\n", ignore_case=True))
@@ -174,9 +184,23 @@ class Stack(unittest.TestCase):
         stack.add_file("[\n[")
         self.assertEqual([stack.unread_lines(file) for file in range(2)], [[2], [1, 2]])
         for file in [2, -1, 2**63, 2**200]:
-            with self.assertRaisesRegex(IndexError, "^there is no ignore file of this index$"):
+            with self.assertRaisesRegex(IndexError, "^there is no ignore file or line of this index$"):
                 stack.unread_lines(file)
         self.assertRaises(TypeError, stack.unread_lines, "a")
+
+    def test_line_text(self):
+        stack = IgnoreStack()
+        stack.add_file("a")
+        stack.enter("d")
+        stack.add_file("# b\n!b \n")
+        self.assertEqual([stack.line_text(*place) for place in [(0, 1), (1, 1), (1, 2), (1, 3)]], ["a", "# b", "!b", ""])
+        for place in [(0, 0), (0, 2), (1, 4), (2, 1), (-1, 1), (0, -1), (2**63, 1), (0, 2**200)]:
+            with self.assertRaisesRegex(IndexError, "^there is no ignore file or line of this index$"):
+                stack.line_text(*place)
+        for place in [("a", 1), (0, None)]:
+            self.assertRaises(TypeError, stack.line_text, *place)
+        stack.leave()
+        self.assertRaises(IndexError, stack.line_text, 1, 1)
 
     def test_no_copies(self):
         stack = IgnoreStack()
@@ -192,6 +216,12 @@ class Stack(unittest.TestCase):
         self.assertRaises(RuntimeError, files(0).rules_many, ["a"], 3)
         for call in [lambda: files(), lambda: files("a"), lambda: files(0).add_file("a"), lambda: files(0).unread_lines("a")]:
             self.assertRaises((TypeError, ctypes_error()), call)
+        for call in [lambda: files(0).line_text(0), lambda: files(0).line_text("a", 1), lambda: files(0).unreachable(0, 0, "a")]:
+            self.assertRaises((TypeError, ctypes_error()), call)
+        one = files(0)
+        one.add_file(b"a")
+        self.assertRaises(RuntimeError, one.unreachable, 0, 2, 9)
+        self.assertRaises(IndexError, one.unreachable, 1, 0, 9)
 
     @unittest.skipUnless(IS_CTYPES, "the functions of the library are no objects")
     def test_statuses(self):
@@ -206,6 +236,10 @@ class Stack(unittest.TestCase):
             ("ignore_decide_many", lambda: stack.decide_many(["a"])),
             ("ignore_rules_many", lambda: stack.rules_many(["a"])),
             ("ignore_unread_lines", lambda: stack.unread_lines(0)),
+            ("ignore_line_text", lambda: stack.line_text(0, 1)),
+            ("ignore_unreachable", lambda: unreachable_rules(stack)),
+            ("answers_lines", lambda: unreachable_rules(stack)),
+            ("answers_at", lambda: unreachable_rules(stack)),
         ]:
             with self.subTest(name=name):
                 with mock.patch.object(globset._library, name, return_value=3), self.assertRaises(MemoryError):
@@ -223,7 +257,10 @@ class Stack(unittest.TestCase):
 
         def interrupted(*arguments):
             status = unread(*arguments)
-            for call in [stack.leave, lambda: stack.add_file("a"), lambda: stack.decide("a"), lambda: stack.unread_lines(0)]:
+            for call in [
+                *(stack.leave, lambda: stack.add_file("a"), lambda: stack.decide("a"), lambda: stack.unread_lines(0)),
+                *(lambda: stack.line_text(0, 1), lambda: unreachable_rules(stack)),
+            ]:
                 try:
                     call()
                 except RuntimeError:
@@ -232,7 +269,7 @@ class Stack(unittest.TestCase):
 
         with mock.patch.object(globset._library, "ignore_unread_lines", interrupted):
             self.assertEqual(stack.unread_lines(0), [1])
-        self.assertEqual(len(refused), 4)
+        self.assertEqual(len(refused), 6)
         self.assertEqual(stack.unread_lines(0), [1])
 
 
@@ -250,7 +287,9 @@ class Threads(unittest.TestCase):
                 stack.add_file(["*.c", "["])
                 stack.filter(["a.c", "b.log", "c"] * 100)
                 stack.leave()
-                if stack.unread_lines(0):
+                if stack.unread_lines(0) or stack.line_text(0, 1) != "*.log":
+                    wrong.append(number)
+                if rules.line_text(2) != "!a.o" or [rule.path for rule in unreachable_rules(rules)] != [".o", "a.o"]:
                     wrong.append(number)
 
         threads = [threading.Thread(target=ask, args=[number]) for number in range(4)]
@@ -350,6 +389,48 @@ class Git(unittest.TestCase):
                 wanted = [said.split("\t")[0].split(":")[1] for said in ran.stdout.splitlines()]
                 decisions = map(IgnoreRules(lines).decide, paths)
                 self.assertEqual([str(decision.line) if decision else "" for decision in decisions], wanted, lines)
+
+    @unittest.skipUnless(has_git(), "git is not there")
+    def test_texts_and_rules_that_never_decide(self):
+        """The texts of lines are those that git prints. No path of many is decided by a rule that never decides."""
+        rng = random.Random(4)
+        pieces = ["a", "b", "*", "/", "**/", "/**", "[ab]", "!", "\\a", "a/", "*/", " ", "\\ "]
+        names = ["a", "b", "ab"]
+        paths = [*names, *("/".join(path) for path in itertools.product(names, repeat=2))]
+        paths += ["/".join(path) for path in itertools.product("ab", repeat=3)]
+        for _ in range(40):
+            lines = ["".join(rng.choices(pieces, k=rng.randint(1, 3))) for _ in range(5)]
+            rules, reached = IgnoreRules(lines), set()
+            answers = unreachable_rules(rules)
+            # A path of which an answer tells may be that of a directory or of a file.
+            found = [answer.path for answer in answers if answer.decides]
+            for line, text in self.told_by_git(lines, [*paths, *found]):
+                self.assertEqual(rules.line_text(line), text, lines)
+                reached.add(line)
+            self.assertEqual({answer.line for answer in answers if answer.decides} - reached, set(), lines)
+            self.assertEqual({answer.line for answer in answers if not answer.decides} & reached, set(), lines)
+
+    def told_by_git(self, lines, paths):
+        """Returns the lines, and their texts, that decide about paths, as those of directories and as those of files."""
+        environment = {**os.environ, "GIT_CONFIG_GLOBAL": "/dev/null", "GIT_CONFIG_NOSYSTEM": "1"}
+        told = []
+        for makes_directories in [False, True]:
+            with tempfile.TemporaryDirectory() as top:
+                subprocess.run(["git", "init", "-q", top], check=True, env=environment)
+                with open(os.path.join(top, ".gitignore"), "w", encoding="utf-8") as file:
+                    file.write("\n".join(lines))
+                for path in paths if makes_directories else []:
+                    os.makedirs(os.path.join(top, path), exist_ok=True)
+                ran = subprocess.run(
+                    ["git", "-C", top, "check-ignore", "--no-index", "-v", "-z", "--stdin"],
+                    input="".join(path + "\0" for path in paths),
+                    stdout=subprocess.PIPE,
+                    env=environment,
+                    universal_newlines=True,
+                )
+                said = ran.stdout.split("\0")
+                told += zip(map(int, said[1::4]), said[2::4])
+        return told
 
 
 class Documentation(unittest.TestCase):

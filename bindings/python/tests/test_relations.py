@@ -4,8 +4,9 @@ import doctest
 import unittest
 
 import globset
-from globset import Glob, GlobError, GlobSet, relations
-from globset.relations import Coverage, Decides, Domain, Intersection, Reachability, covering, overlap, unreachable
+from globset import Glob, GlobError, GlobSet, IgnoreRules, IgnoreStack, relations
+from globset.relations import Coverage, Decides, Domain, Intersection, Reachability, RuleReachability
+from globset.relations import covering, overlap, unreachable, unreachable_rules
 
 COVERED = [
     ("*.c", ["*"], True, True),
@@ -31,10 +32,30 @@ NEVER = [
     (Decides.LAST, ["..", "a//b", "a"], [(), (), None]),
     (Decides.FIRST, [], []),
 ]
+# An ignore file, and of each rule its line, and the only shortest path about which it decides by git's rule, the lines that
+# cover it, or the line that ignores a directory.
+RULES = [
+    (["*.log", "# a", "!kept.log", "", "*.log"], [(1, (5,)), (3, (5,)), (5, ".log")]),
+    (["[x", "/src", "!/src/a"], [(2, "src"), (3, 2)]),
+    (["out/", "!out/keep", "out/*.o"], [(1, "out"), (2, 1), (3, 1)]),
+    (["/src/[bc]", "!/src/b", "/src/b/c"], [(1, "src/c"), (2, "src/b"), (3, "src/b/c")]),
+    (["[ab]", "b", "!a"], [(1, (2, 3)), (2, "b"), (3, "a")]),
+    (["a/", "!a"], [(1, (2,)), (2, "a")]),
+    (["a", "!a/"], [(1, "a"), (2, "a")]),
+    (["a//b", "..", "a"], [(1, ()), (2, ()), (3, "a")]),
+    (["é", b"\xff"], [(1, "é"), (2, "\udcff")]),
+    (["# a", "["], []),
+]
 
 
 def glob(text):
     return Glob(text, literal_separator=True)
+
+
+def rule_answer(line, told):
+    if isinstance(told, str):
+        return RuleReachability(line, True, told, None, None)
+    return RuleReachability(line, False, None, *((None, told) if isinstance(told, int) else (told, None)))
 
 
 class Relations(unittest.TestCase):
@@ -67,6 +88,29 @@ class Relations(unittest.TestCase):
                 for answer, cover in zip(answers, wanted):
                     self.assertIs(answer.decides, cover is None)
                     self.assertEqual(answer.path is None, cover is not None)
+
+    def test_unreachable_rules(self):
+        for lines, wanted in RULES:
+            with self.subTest(lines=lines):
+                stack = IgnoreStack()
+                stack.add_file("*")
+                stack.add_file(lines)
+                for answers in [unreachable_rules(IgnoreRules(lines)), unreachable_rules(stack, 1)]:
+                    answers = [answer._replace(cover=answer.cover and tuple(sorted(answer.cover))) for answer in answers]
+                    self.assertEqual(answers, [rule_answer(*answer) for answer in wanted])
+                unknown = [RuleReachability(line, None, None, None, None) for line, _ in wanted]
+                self.assertEqual(unreachable_rules(stack, 1, limit=0), unknown)
+
+    def test_unreachable_rules_by_options(self):
+        self.assertEqual([answer.path for answer in unreachable_rules(IgnoreRules(".."), domain=Domain.ALL_PATHS)], [".."])
+        rules = [IgnoreRules("ab\nAB", ignore_case=ignore_case) for ignore_case in (False, True)]
+        self.assertEqual([unreachable_rules(each, limit=10**30)[0].decides for each in rules], [True, False])
+        for file in [1, -1, 2**70]:
+            self.assertRaises(IndexError, unreachable_rules, rules[0], file)
+        self.assertRaises(IndexError, unreachable_rules, IgnoreStack())
+        self.assertRaises(ValueError, unreachable_rules, rules[0], limit=-1)
+        for lines in ["a", ["a"], None]:
+            self.assertRaises(TypeError, unreachable_rules, lines)
 
     def test_paths(self):
         every = Domain.ALL_PATHS

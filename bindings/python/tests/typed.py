@@ -28,6 +28,8 @@ covered: relations.Coverage = relations.covering("*.c", [one, "*"], domain=relat
 missed: str = covered.path or ""
 shared: relations.Intersection = relations.overlap(one, "a", limit=9)
 never: List[Tuple[int, ...]] = [rule.cover or () for rule in relations.unreachable(GlobSet([one]))]
+never_of: List[relations.RuleReachability] = relations.unreachable_rules(IgnoreStack(), 1, limit=9)
+ignored_lines: List[Optional[int]] = [rule.below_ignored for rule in relations.unreachable_rules(IgnoreRules("a"))]
 
 visible: Iterator[str] = walk(".", ["*.py"], ignored=True)
 rules: IgnoreRules = IgnoreRules(["*.o", b"*.a"], ignore_case=True)
@@ -37,6 +39,7 @@ decisions: List[Optional[bool]] = IgnoreStack().decide_many(["a", b"b"], "path")
 rules_of_many: List[Optional[ignore.Decision]] = IgnoreStack().rules_many(["a", b"b"], "path")
 others_of: List[pathlib.Path] = rules.filter(pathlib.Path(".").iterdir())
 unread: List[int] = rules.unread_lines() + IgnoreStack().unread_lines(0)
+line_texts: List[str] = [rules.line_text(1), IgnoreStack().line_text(0, 1)]
 spec: pathspec.GitIgnoreSpec = pathspec.GitIgnoreSpec.from_lines(["*.o"]) + pathspec.PathSpec.from_lines("gitignore", ["a"])
 named: pathspec.GitIgnoreSpec = pathspec.GitIgnoreSpec.from_lines("gitwildmatch", ["*.o"])
 matching: List[pathlib.Path] = list(spec.match_files([pathlib.Path("a.o")], negate=True))

@@ -168,6 +168,16 @@ impl Indexes {
     }
 }
 
+/// A copy of what a call lent: so many members of an array. Nothing is read if there are none.
+// SAFETY: the caller ensures that what was lent still "may be read".
+unsafe fn copied<T: Copy>(at: *const T, count: usize) -> Vec<T> {
+    if count == 0 {
+        return Vec::new();
+    }
+    // SAFETY: the library lent so many members there, and the caller ensures that they may still be read.
+    unsafe { slice::from_raw_parts(at, count) }.to_vec()
+}
+
 /// Ends the program as Rust's own containers do when memory runs out; panics at a status that the header rules out.
 #[cold]
 fn unexpected(status: Status) -> ! {
@@ -536,20 +546,26 @@ pub(crate) enum Told {
 struct Answers(Owned);
 
 impl Answers {
-    /// What the answer of an index tells, which has to be there.
-    fn told(&mut self, index: usize) -> Told {
+    /// The status of the answer of an index, which has to be there, and its path and its indexes.
+    fn at(&mut self, index: usize) -> (Status, Vec<u8>, Vec<usize>) {
         let (mut path, mut indexes) = (Bytes::none(), Indexes::none());
         // SAFETY: "Lends what the answer of an index tells." What is handed in is valid, since it has no members. The answers are
         // borrowed exclusively: "An owned object is in one call at a time."
-        match unsafe { globset_raw_answers_at(&mut self.0, index, &mut path, &mut indexes) } {
-            YES if path.count == 0 => Told::Path(Vec::new()),
-            NO if indexes.count == 0 => Told::NoPath(Vec::new()),
-            // SAFETY: "Both may be read until the next call that the answers are passed to", and are copied here.
-            YES => Told::Path(unsafe { slice::from_raw_parts(path.at, path.count) }.to_vec()),
-            // SAFETY: "Both may be read until the next call that the answers are passed to", and are copied here.
-            NO => Told::NoPath(unsafe { slice::from_raw_parts(indexes.at, indexes.count) }.to_vec()),
-            LIMIT_REACHED => Told::LimitReached,
-            status => unexpected(status),
+        let status = unsafe { globset_raw_answers_at(&mut self.0, index, &mut path, &mut indexes) };
+        // SAFETY: "Both may be read until the next call that the answers are passed to".
+        let path = unsafe { copied(path.at, path.count) };
+        // SAFETY: "Both may be read until the next call that the answers are passed to".
+        let indexes = unsafe { copied(indexes.at, indexes.count) };
+        (status, path, indexes)
+    }
+
+    /// What the answer of an index tells, which has to be there.
+    fn told(&mut self, index: usize) -> Told {
+        match self.at(index) {
+            (YES, path, _) => Told::Path(path),
+            (NO, _, indexes) => Told::NoPath(indexes),
+            (LIMIT_REACHED, ..) => Told::LimitReached,
+            (status, ..) => unexpected(status),
         }
     }
 }

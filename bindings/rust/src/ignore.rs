@@ -24,7 +24,10 @@
 
 use std::{fmt, os::unix::ffi::OsStrExt, path::Path};
 
-use crate::ffi::ignore::{Ignore, IGNORE_CASE};
+use crate::{
+    ffi::ignore::{Ignore, IGNORE_CASE},
+    relations::Domain,
+};
 
 /// What decides about a path.
 #[derive(Clone, Copy, Debug, Eq, Hash, PartialEq)]
@@ -57,6 +60,21 @@ pub struct Rule {
     pub line: usize,
     /// Whether it ignores the path, and otherwise keeps it.
     pub is_ignored: bool,
+}
+
+/// Whether a rule of an ignore file ever decides, by [`By::Git`]. Rules are named by the numbers of their lines, from 1.
+#[derive(Clone, Debug, Eq, PartialEq)]
+pub enum Reachability {
+    /// It decides about this path of the domain, and about no shorter path.
+    Decides(Vec<u8>),
+    /// It decides about no path of the domain: the later rules of these lines cover it. None of them can be left out. It is one line
+    /// if one of them covers the rule alone, and none if the rule matches no path of the domain.
+    Never(Vec<usize>),
+    /// It decides about no path of the domain: each that it would decide about lies below an ignored directory. The rule of this
+    /// line ignores one.
+    BelowIgnored(usize),
+    /// A search has more rows than the limit.
+    Unknown,
 }
 
 /// A walk through directories, with the ignore files of the directory that it is in and of those above it.
@@ -214,6 +232,42 @@ impl IgnoreStack {
     /// ```
     pub fn unread_lines(&mut self, file: usize) -> Option<Vec<usize>> {
         self.ignore.unread_lines(file)
+    }
+
+    /// The text of a line, as `git check-ignore -v` prints that of a rule: without what git removes at the end of a line. The file
+    /// and the line are as in [`Rule`]. `None` if there is no such file or line. Time is linear in the file up to the line.
+    ///
+    /// ```
+    /// use globset::ignore::{By, IgnoreStack};
+    ///
+    /// let mut ignore = IgnoreStack::new();
+    /// ignore.add_file("# objects\n*.o  \n");
+    /// let rule = ignore.decide("a.o", false, By::Git).expect("a rule");
+    /// assert_eq!(ignore.line_text(rule.file, rule.line).as_deref(), Some(b"*.o".as_slice()));
+    /// assert_eq!(ignore.line_text(0, 4), None);
+    /// ```
+    pub fn line_text(&mut self, file: usize, line: usize) -> Option<Vec<u8>> {
+        self.ignore.line_text(file, line)
+    }
+
+    /// For each rule of a file, in order, the number of its line, from 1, and whether it ever decides about a path of the domain
+    /// by [`By::Git`], if there were no other file. The file is that of an index as in [`Rule`], and paths begin in its directory.
+    /// `None` if there is no such file.
+    ///
+    /// Each rule takes a few searches. Each search has the limit; [`relations`](crate::relations) says how much memory it takes.
+    ///
+    /// ```
+    /// use globset::{ignore::{IgnoreStack, Reachability}, relations::Domain};
+    ///
+    /// let mut ignore = IgnoreStack::new();
+    /// ignore.add_file("*.log\n\n/src\n!/src/a\n!kept.log\n*.log\n");
+    /// let rules = ignore.unreachable(0, Domain::RelativePaths, 100_000).expect("a file");
+    /// assert_eq!(rules[0], (1, Reachability::Never(vec![6])));
+    /// assert_eq!(rules[1], (3, Reachability::Decides(b"src".to_vec())));
+    /// assert_eq!(rules[2], (4, Reachability::BelowIgnored(3)));
+    /// ```
+    pub fn unreachable(&mut self, file: usize, domain: Domain, limit: usize) -> Option<Vec<(usize, Reachability)>> {
+        self.ignore.unreachable(file, domain.number(), limit)
     }
 }
 

@@ -76,7 +76,7 @@ pub enum Reachability {
 }
 
 impl Domain {
-    fn number(self) -> u32 {
+    pub(crate) fn number(self) -> u32 {
         match self {
             Domain::AllPaths => 0,
             Domain::RelativePaths => 1,

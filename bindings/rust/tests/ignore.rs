@@ -2,7 +2,10 @@
 
 use std::{ffi::OsStr, os::unix::ffi::OsStrExt, path::Path};
 
-use globset::ignore::{By, Decision, IgnoreStack, Rule};
+use globset::{
+    ignore::{By, Decision, IgnoreStack, Reachability, Rule},
+    relations::Domain,
+};
 
 fn stack(file: &str) -> IgnoreStack {
     let mut stack = IgnoreStack::new();
@@ -163,6 +166,64 @@ fn unread_lines_are_told() {
     assert_eq!((stack.unread_lines(1), stack.unread_lines(2)), (Some(vec![]), None));
     stack.leave();
     assert_eq!((stack.unread_lines(1), stack.unread_lines(usize::MAX)), (None, None));
+}
+
+#[test]
+fn lines_have_their_texts() {
+    let mut stack = stack("\u{feff}*.o\r\n\n# text  \n!a\\ \\b  \n[c\n/d\0e");
+    stack.add_file(b"\xff \n".as_slice());
+    let wanted = ["*.o", "", "# text", "!a\\ \\b", "[c", "/d"];
+    for (line, text) in (1..).zip(wanted) {
+        assert_eq!(stack.line_text(0, line).as_deref(), Some(text.as_bytes()), "{line}");
+    }
+    assert_eq!((stack.line_text(1, 1), stack.line_text(1, 2)), (Some(vec![0xff]), Some(vec![])));
+    for (file, line) in [(0, 0), (0, 7), (1, 3), (2, 1), (0, usize::MAX), (usize::MAX, 1)] {
+        assert_eq!(stack.line_text(file, line), None, "{file} {line}");
+    }
+}
+
+/// What is found out about the rules of a file, where another file is there.
+fn reachable(file: &str, domain: Domain, limit: usize) -> Vec<(usize, Reachability)> {
+    let mut stack = stack("*\n");
+    stack.add_file(file);
+    let mut rules = stack.unreachable(1, domain, limit).expect("a file");
+    for (_, rule) in &mut rules {
+        if let Reachability::Never(lines) = rule {
+            lines.sort_unstable();
+        }
+    }
+    rules
+}
+
+#[test]
+fn rules_never_decide() {
+    let decides = |path: &str| Reachability::Decides(path.as_bytes().to_vec());
+    let never = |lines: &[usize]| Reachability::Never(lines.to_vec());
+    let below = Reachability::BelowIgnored;
+    let rows = [
+        ("*.log\n# a\n!kept.log\n\n*.log", vec![(1, never(&[5])), (3, never(&[5])), (5, decides(".log"))]),
+        ("[x\n/src\n!/src/a", vec![(2, decides("src")), (3, below(2))]),
+        ("out/\n!out/keep\nout/*.o", vec![(1, decides("out")), (2, below(1)), (3, below(1))]),
+        ("/src/[bc]\n!/src/b\n/src/b/c", vec![(1, decides("src/c")), (2, decides("src/b")), (3, decides("src/b/c"))]),
+        ("[ab]\nb\n!a", vec![(1, never(&[2, 3])), (2, decides("b")), (3, decides("a"))]),
+        ("a/\n!a", vec![(1, never(&[2])), (2, decides("a"))]),
+        ("a\n!a/", vec![(1, decides("a")), (2, decides("a"))]),
+        ("a//b\n..\na", vec![(1, never(&[])), (2, never(&[])), (3, decides("a"))]),
+        ("é", vec![(1, decides("é"))]),
+        ("# a\n[", vec![]),
+    ];
+    for (file, wanted) in rows {
+        let unknown: Vec<_> = wanted.iter().map(|(line, _)| (*line, Reachability::Unknown)).collect();
+        assert_eq!(reachable(file, Domain::RelativePaths, 100_000), wanted, "{file:?}");
+        assert_eq!(reachable(file, Domain::RelativePaths, 0), unknown, "{file:?}");
+    }
+    assert_eq!(reachable("..", Domain::AllPaths, 100_000), [(1, decides(".."))]);
+    let mut ignoring_case = IgnoreStack::new_ignoring_case();
+    assert_eq!(ignoring_case.unreachable(0, Domain::AllPaths, 100_000), None);
+    ignoring_case.add_file("ab\nAB\n");
+    let rules = ignoring_case.unreachable(0, Domain::AllPaths, 100_000).expect("a file");
+    assert_eq!((rules.len(), &rules[0]), (2, &(1, never(&[2]))));
+    assert_eq!(ignoring_case.unreachable(usize::MAX, Domain::AllPaths, 100_000), None);
 }
 
 #[test]

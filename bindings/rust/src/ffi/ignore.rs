@@ -1,14 +1,18 @@
 //! The ignores of the C library, which decide about paths by ignore files. The comments cite `globset_raw.h` as those of
 //! `src/ffi.rs` do, and rest on the same four promises.
 
-use std::slice;
+use std::ptr;
 
-use super::{done, globset_raw_free, unexpected, Indexes, Owned, Status, DONE, NO, YES};
+use super::{
+    copied, done, globset_raw_free, unexpected, Answers, Bytes, Indexes, Owned, Status, DONE, LIMIT_REACHED, NO, YES,
+};
+use crate::ignore::Reachability;
 
 /// The bit of the options, as in `globset.h`.
 pub(crate) const IGNORE_CASE: u32 = 1;
 
 const BAD_INDEX: Status = 11;
+const BELOW_IGNORED: Status = 12;
 
 extern "C" {
     fn globset_raw_ignore_new(options: u32, out: *mut Owned) -> Status;
@@ -45,6 +49,15 @@ extern "C" {
         rules_len: usize,
     ) -> Status;
     fn globset_raw_ignore_unread_lines(ignore: *mut Owned, file: usize, lines: *mut Indexes) -> Status;
+    fn globset_raw_ignore_line_text(ignore: *mut Owned, file: usize, line: usize, text: *mut Bytes) -> Status;
+    fn globset_raw_ignore_unreachable(
+        ignore: *mut Owned,
+        file: usize,
+        domain: u32,
+        limit: usize,
+        out: *mut Owned,
+    ) -> Status;
+    fn globset_raw_answers_lines(answers: *mut Owned, lines: *mut Indexes) -> Status;
 }
 
 /// What the library tells of a path: whether it is ignored, and the file and the line of the rule that decides. The line is 0 if
@@ -153,12 +166,57 @@ impl Ignore {
         // SAFETY: "Lends the numbers of the lines of a file that git cannot read, ascending, from 1." What is handed in is valid,
         // since there are none.
         match unsafe { globset_raw_ignore_unread_lines(&mut self.0, file, &mut lines) } {
-            DONE if lines.count == 0 => Some(Vec::new()),
-            // SAFETY: "they may be read until the next call that the walk is passed to", and are copied here.
-            DONE => Some(unsafe { slice::from_raw_parts(lines.at, lines.count) }.to_vec()),
+            // SAFETY: "they may be read until the next call that the walk is passed to".
+            DONE => Some(unsafe { copied(lines.at, lines.count) }),
             BAD_INDEX => None,
             status => unexpected(status),
         }
+    }
+
+    /// The text of a line of a file, or `None` if there is no file of this index or no such line.
+    pub(crate) fn line_text(&mut self, file: usize, line: usize) -> Option<Vec<u8>> {
+        let mut text = Bytes::none();
+        // SAFETY: "Lends the text of a line of a file". What is handed in is valid, since it has no bytes.
+        match unsafe { globset_raw_ignore_line_text(&mut self.0, file, line, &mut text) } {
+            // SAFETY: "the text may be read until the next call that the walk is passed to".
+            DONE => Some(unsafe { copied(text.at, text.count) }),
+            BAD_INDEX => None,
+            status => unexpected(status),
+        }
+    }
+
+    /// For each rule of a file the number of its line, and whether it decides about some path of the domain, or `None` if there is
+    /// no file of this index.
+    pub(crate) fn unreachable(&mut self, file: usize, domain: u32, limit: usize) -> Option<Vec<(usize, Reachability)>> {
+        let mut owned = Owned { at: ptr::null_mut() };
+        // SAFETY: "Decides for each rule of an ignore file whether it ever decides".
+        match unsafe { globset_raw_ignore_unreachable(&mut self.0, file, domain, limit, &mut owned) } {
+            DONE => Some(Answers(owned).told_of_rules()),
+            BAD_INDEX => None,
+            status => unexpected(status),
+        }
+    }
+}
+
+impl Answers {
+    /// For each rule that they are about the number of its line, and what its answer tells.
+    fn told_of_rules(mut self) -> Vec<(usize, Reachability)> {
+        let mut lines = Indexes::none();
+        // SAFETY: "Lends the numbers of the lines of the rules". What is handed in is valid, since there are none.
+        done(unsafe { globset_raw_answers_lines(&mut self.0, &mut lines) });
+        // SAFETY: "they may be read as long as what globset_raw_answers_at lends".
+        let lines = unsafe { copied(lines.at, lines.count) };
+        let told = lines.iter().enumerate().map(|(index, line)| {
+            let told = match self.at(index) {
+                (YES, path, _) => Reachability::Decides(path),
+                (NO, _, rules) => Reachability::Never(rules.into_iter().map(|rule| lines[rule]).collect()),
+                (BELOW_IGNORED, _, rules) => Reachability::BelowIgnored(lines[rules[0]]),
+                (LIMIT_REACHED, ..) => Reachability::Unknown,
+                (status, ..) => unexpected(status),
+            };
+            (*line, told)
+        });
+        told.collect()
     }
 }
 
