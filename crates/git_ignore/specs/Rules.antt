@@ -1,6 +1,6 @@
 -- The rules of an ignore file, and which of them decides about a path below the file's folder. Git compares without regard
 -- to case where its setting `core.ignoreCase` is set: `ignore_case` is that setting.
-use Rattle.std.specs.Prelude.{ℕ, zero, suc, Bool, not, ◌==◌, ◌&&◌, ◌||◌, List, [], ◌∷◌, Option, Some, None, is_none, if◌then◌else◌, slice_get}
+use Rattle.std.specs.Prelude.{ℕ, zero, suc, Bool, not, ◌==◌, ◌&&◌, ◌||◌, List, [], ◌∷◌, Option, Some, None, is_none, if◌then◌else◌, map, slice_get}
 use Rattle.std.specs.List.{list_all}
 use Rattle.std.specs.Option.{option_map}
 use Rattle.ignore_pattern.specs.Ends.{begins_with, without_first}
@@ -23,6 +23,13 @@ rules_from n (line ∷ lines) = elim (pattern_of_line line) [ None ↦ rules_fro
 -- the rules of an ignore file, given by its bytes
 unfoldable pub rules_of : List ℕ → List Rule
 rules_of file = rules_from 1 (file_lines file)
+
+-- the patterns of rules, and the numbers of their lines
+abbrev pub patterns_of : List Rule → List Pattern
+patterns_of rules = map (λ (rule : Rule). rule.pattern) rules
+
+abbrev pub lines_of_rules : List Rule → List ℕ
+lines_of_rules rules = map (λ (rule : Rule). rule.line) rules
 
 -- The text of a line has no pattern to read: it is a comment, or has nothing but slashes after its `!`, if one is there.
 abbrev pub lacks_pattern : List ℕ → Bool

@@ -1,5 +1,6 @@
 -- The folder that a walk is in, and those above it with their ignore files, as contracts see them.
-use Rattle.std.specs.Prelude.{ℕ, Bool, List, [], ◌∷◌, ◌++◌, map, Option}
+use Rattle.std.specs.Prelude.{ℕ, Bool, List, [], ◌∷◌, ◌++◌, map, Option, slice_get}
+use Rattle.std.specs.Option.{option_map}
 use Rattle.git_ignore.specs.Folders.{IgnoreFile, files_rule}
 use Rattle.git_ignore.specs.TwoRules.{deciding}
 use Rattle.git_ignore.specs.declared.decision.DecideBy.{DecideBy}
@@ -24,6 +25,10 @@ files_in ignore_case (f ∷ fs) = files_in ignore_case fs ++ map (λ bytes. reco
 -- the ignore files of the current folder and of the folders above it, from the top down
 abbrev pub stack_files : StackValue → List IgnoreFile
 stack_files s = files_in s.ignore_case (s.here ∷ s.above)
+
+-- the bytes of the file with this index among them, if there is one
+abbrev pub file_at : StackValue → ℕ → Option (List ℕ)
+file_at s index = option_map (λ (f : IgnoreFile). f.bytes) (slice_get (stack_files s) index)
 
 -- the rule that decides about a path below the current folder
 abbrev pub stack_rule : StackValue → DecideBy → List ℕ → Bool → Option DecidingRule

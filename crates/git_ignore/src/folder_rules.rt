@@ -46,6 +46,13 @@ impl FolderRules {
         Ok(FolderRules { folder, rules })
     }
 
+    /// Returns the bytes of the file.
+    pub fn file(&self) -> &[u8]
+        ensures { result.now ≡ (file_of self.now).bytes }
+    {
+        self.rules.file()
+    }
+
     /// Returns the numbers of the lines that git cannot read.
     pub fn unread_lines(&self) -> &[usize]
         ensures { result.now ≡ unread_lines_of (file_of self.now).bytes }

@@ -83,6 +83,7 @@ mod two_rules;
 
 pub use builder::RulesBuilder;
 pub use decision::{DecideBy, DecidingRule, Decision};
+pub use reading::{RulePatterns, rule_patterns};
 pub use rules::Rules;
 pub use scratch::IgnoreScratch;
 pub use searcher::RulesSearcher;

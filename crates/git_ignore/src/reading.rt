@@ -1,11 +1,11 @@
 //! Rules as they are read, line by line.
 
-ghost use Rattle.std.specs.Prelude.{◌≡◌, ◌==◌, ◌++◌, ◌∷◌, [], OnOk, not};
+ghost use Rattle.std.specs.Prelude.{◌≡◌, ◌==◌, ◌++◌, ◌∷◌, [], IfOk, OnOk, map, not};
 ghost use Rattle.std.specs.List.{list_all};
 ghost use Rattle.std.specs.Option.{option_copied};
 ghost use Rattle.ignore_pattern.specs.Lines.{line_text, lines_of, without_byte_order_mark};
 ghost use Rattle.ignore_pattern.specs.Patterns.{pattern_of_line};
-ghost use Rattle.git_ignore.specs.Rules.{is_unread, lacks_pattern, line_at, rules_from, unread_from};
+ghost use Rattle.git_ignore.specs.Rules.{is_unread, lacks_pattern, line_at, lines_of_rules, patterns_of, rules_from, rules_of, unread_from};
 ghost use Rattle.git_ignore.specs.inner.Entries.{AddsRules, ArePartsOf, entry_of, rule_at, unread_at};
 
 use crate::entry::RuleEntry;
@@ -100,6 +100,52 @@ impl FileRules {
         }
         Ok(())
     }
+}
+
+/// The rules of an ignore file, in the order of their lines.
+#[derive(Drop)]
+pub struct RulePatterns {
+    /// The pattern of each.
+    pub patterns: Vec<IgnorePattern>,
+    /// The number of the line of each, counted from 1.
+    pub lines: Vec<usize>,
+}
+
+/// Reads the rules of an ignore file, given by its bytes, to ask which paths their patterns match. It takes time and memory as
+/// [`crate::Rules::new`] does. Fails only if memory runs out.
+///
+/// ```rust
+/// use git_ignore::rule_patterns;
+///
+/// let rules = rule_patterns(alloc, b"# What a build makes\n*.o\n\n!a.o\n")?;
+/// assert_eq!(rt; rules.lines.as_slice(), [2, 4].as_slice());
+/// assert!(rt; rules.patterns[1].is_negated());
+/// ```
+pub fn rule_patterns(alloc: Global, file: &[u8]) -> Result<RulePatterns, AllocError>
+    ensures patterns { IfOk result
+        (λ read. read.patterns.items ≡ patterns_of (rules_of file.now)) }
+    ensures lines { IfOk result (λ read. read.lines.items ≡ lines_of_rules (rules_of file.now)) }
+{
+    let mut read = FileRules::new(alloc);
+    read.push_lines(alloc, after_mark(file))?;
+    let FileRules {
+        patterns,
+        entries,
+        unread: _,
+    } = read;
+    let lines = lines_of(alloc, &entries)?;
+    Ok(RulePatterns { patterns, lines })
+}
+
+/// Returns the number of the line of each entry.
+fn lines_of(alloc: Global, entries: &[RuleEntry]) -> Result<Vec<usize>, AllocError>
+    ensures { IfOk result (λ lines. lines.items ≡ map (λ e. e.line) entries.now) }
+{
+    let mut lines = Vec::new(alloc);
+    for entry in entries {
+        lines.push(entry.line)?;
+    }
+    Ok(lines)
 }
 
 /// Returns the bytes of a file without a byte order mark at their start.

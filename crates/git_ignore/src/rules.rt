@@ -217,6 +217,13 @@ impl Rules {
         self.stored.line_text(number)
     }
 
+    /// Returns the bytes of the file.
+    pub(crate) fn file(&self) -> &[u8]
+        ensures { result.now ≡ self.now.file }
+    {
+        self.stored.file()
+    }
+
     /// Returns the rule that decides about a path alone, if these are the rules of the file with this index.
     pub(crate) fn rule_in(
         &self,

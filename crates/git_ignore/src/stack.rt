@@ -1,11 +1,12 @@
 //! Ignore files of nested folders.
 
-ghost use Rattle.std.specs.Prelude.{◌≡◌, ◌≤◌, ◌<◌, ◌++◌, ◌∷◌, [], true, false, IfOk, MatchOption, OnOk, OnErr, is_some, length, slice_get, take};
+ghost use Rattle.std.specs.Prelude.{◌≡◌, ◌++◌, ◌∷◌, [], true, false, None, Some, IfOk, MatchOption, OnOk, OnErr, is_some, take};
 ghost use Rattle.std.specs.Option.{option_and_then, option_copied, option_map};
 ghost use Rattle.git_ignore.specs.Rules.{decision_of, line_text_at, unread_lines_of};
 ghost use Rattle.git_ignore.specs.Folders.{files_rule};
-ghost use Rattle.git_ignore.specs.StackValue.{at_top, entered, left, stack_files, stack_rule, with_file};
+ghost use Rattle.git_ignore.specs.StackValue.{at_top, entered, file_at, left, stack_files, stack_rule, with_file};
 ghost use Rattle.git_ignore.specs.TwoRules.{ignored_above, ignoring};
+ghost use Rattle.git_ignore.specs.inner.Stacks.{file_of};
 ghost use Rattle.git_ignore.specs.declared.decision.DecideBy.TheVariants.{Git, Nearest};
 
 use crate::decision::{DecideBy, DecidingRule, Decision, decision_of, ignoring};
@@ -247,15 +248,29 @@ impl IgnoreStack {
         Ok(rule)
     }
 
+    /// Returns whether the rules ignore case.
+    pub fn ignores_case(&self) -> bool
+        ensures { result ≡ self.now.ignore_case }
+    {
+        self.ignore_case
+    }
+
+    /// Returns the bytes of a file, or `None` if there is no file with this index. The indexes are those of [`DecidingRule::file`].
+    pub fn file(&self, file: usize) -> Option<&[u8]>
+        ensures { option_copied result ≡ file_at self.now file }
+    {
+        match self.rules_at(file) {
+            Some(rules) => Some(rules.file()),
+            None => None,
+        }
+    }
+
     /// Returns the numbers, counted from 1, of the lines of a file that git cannot read, as [`crate::Rules::unread_lines`] does; or
     /// `None` if there is no file with this index. The indexes are those of [`DecidingRule::file`].
     pub fn unread_lines(&self, file: usize) -> Option<&[usize]>
-        ensures there { MatchOption result (length (stack_files self.now) ≤ file)
-            (λ lines. file < length (stack_files self.now)) }
-        ensures lines { option_copied result
-            ≡ option_map (λ f. unread_lines_of f.bytes) (slice_get (stack_files self.now) file) }
+        ensures { option_copied result ≡ option_map unread_lines_of (file_at self.now file) }
     {
-        match self.files.get(file) {
+        match self.rules_at(file) {
             Some(rules) => Some(rules.unread_lines()),
             None => None,
         }
@@ -275,10 +290,21 @@ impl IgnoreStack {
     /// ```
     pub fn line_text(&self, file: usize, number: usize) -> Option<&[u8]>
         ensures { option_copied result
-            ≡ option_and_then (λ f. line_text_at f.bytes number) (slice_get (stack_files self.now) file) }
+            ≡ option_and_then (λ bytes. line_text_at bytes number) (file_at self.now file) }
+    {
+        match self.rules_at(file) {
+            Some(rules) => rules.line_text(number),
+            None => None,
+        }
+    }
+
+    /// Returns the rules of the file with this index, if there is one.
+    fn rules_at(&self, file: usize) -> Option<&FolderRules>
+        ensures { MatchOption result (file_at self.now file ≡ None)
+            (λ rules. file_at self.now file ≡ Some (file_of rules.now).bytes) }
     {
         match self.files.get(file) {
-            Some(rules) => rules.line_text(number),
+            Some(rules) => Some(rules),
             None => None,
         }
     }

@@ -77,6 +77,13 @@ impl StoredRules {
         *self.file.allocator()
     }
 
+    /// Returns the bytes of the file.
+    pub fn file(&self) -> &[u8]
+        ensures { result.now ≡ self.now.file }
+    {
+        &self.file
+    }
+
     /// Returns the text of the line with this number, if there is one.
     pub fn line_text(&self, number: usize) -> Option<&[u8]>
         ensures { option_copied result ≡ line_text_at self.now.file number }

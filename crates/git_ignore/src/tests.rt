@@ -2,7 +2,7 @@
 
 use crate::{
     DecideBy, DecidingRule, Decision, IgnoreScratch, IgnoreStack, Rules, RulesBuilder,
-    RulesSearcher,
+    RulesSearcher, rule_patterns,
 };
 use std::alloc::{AllocError, Global};
 
@@ -232,6 +232,10 @@ fn rules_of_nested_files(rt: HostRuntime) -> Result<(), AllocError> {
     }
     assert_eq!(rt; stack.unread_lines(1), Some([3].as_slice()));
     assert_eq!(rt; stack.unread_lines(3), None);
+    assert_eq!(rt; stack.line_text(2, 3), Some(b"/b/".as_slice()));
+    assert_eq!(rt; stack.file(0), Some(b"*.tmp\n".as_slice()));
+    assert_eq!(rt; stack.file(3), None);
+    assert!(rt; !stack.ignores_case());
 
     // In an ignored folder the rule that ignores it decides.
     stack.enter(b"out")?;
@@ -240,6 +244,19 @@ fn rules_of_nested_files(rt: HostRuntime) -> Result<(), AllocError> {
     assert_eq!(rt; rule.map(|rule| (rule.file, rule.line)), Some((1, 2)));
     let rule = stack.deciding_rule(b"z", false, DecideBy::PathAlone)?;
     assert_eq!(rt; rule.map(|rule| (rule.file, rule.line)), Some((3, 1)));
+    Ok(())
+}
+
+#[test]
+fn rules_by_their_lines(rt: HostRuntime) -> Result<(), AllocError> {
+    let read = rule_patterns(rt.alloc(), b"\xef\xbb\xbf*.o\n# none\n[\n\n!a.o\r\nout/")?;
+    assert_eq!(rt; read.lines.as_slice(), [1, 5, 6].as_slice());
+    let kinds = [(false, false), (true, false), (false, true)];
+    for (pattern, (is_negated, is_folders_only)) in read.patterns.iter().zip(&kinds) {
+        assert_eq!(rt; pattern.is_negated(), *is_negated);
+        assert_eq!(rt; pattern.is_folders_only(), *is_folders_only);
+    }
+    assert_eq!(rt; read.patterns.len(), kinds.len());
     Ok(())
 }
 

@@ -11,9 +11,9 @@ use Rattle.byte_nfa.specs.Steps.{IsReached, NfaValue}
 use Rattle.glob_matching.specs.Matching.{AddsReached}
 use Rattle.ignore_pattern.specs.Automata.{IsAutomatonOf, SomeAbove, above_index, matches_at}
 use Rattle.ignore_pattern.specs.Patterns.{Pattern, pattern_matches}
-use Rattle.git_ignore.specs.Rules.{Rule, applies, last_rule, told, deciding_rule, rules_of}
+use Rattle.git_ignore.specs.Rules.{Rule, applies, last_rule, patterns_of, told, deciding_rule, rules_of}
 use Rattle.git_ignore.specs.declared.entry.RuleEntry.{RuleEntry}
-use Rattle.git_ignore.specs.inner.Entries.{is_for, entry_of, entry_of_rule, told_of, chosen, last_found, rule_at, patterns_of, entries_of, ArePartsOf, AreStored}
+use Rattle.git_ignore.specs.inner.Entries.{is_for, entry_of, entry_of_rule, told_of, chosen, last_found, rule_at, entries_of, ArePartsOf, AreStored}
 
 -- ---- from entries to rules that decide
 

@@ -10,12 +10,11 @@ use Rattle.glob_matching.specs.Matching.{AddsReached}
 use Rattle.ignore_pattern.specs.Automata.{IsAutomatonOf, SomeAbove}
 use Rattle.ignore_pattern.specs.Patterns.{pattern_matches}
 use Rattle.git_ignore.specs.Folders.{file_rule, files_rule}
-use Rattle.git_ignore.specs.Rules.{Rule, deciding_rule, last_rule, rules_of, told}
+use Rattle.git_ignore.specs.Rules.{Rule, deciding_rule, last_rule, patterns_of, rules_of, told}
 use Rattle.git_ignore.specs.TwoRules.{first_answer, folders_above, ignoring, last_answer, or_else}
 use Rattle.git_ignore.specs.declared.decision.DecidingRule.{DecidingRule}
 use Rattle.git_ignore.specs.declared.folder_rules.FolderRules.{FolderRules}
 use Rattle.git_ignore.specs.declared.path_rule.PathRule.{PathRule}
-use Rattle.git_ignore.specs.inner.Entries.{patterns_of}
 use Rattle.git_ignore.specs.inner.PathRules.{IsPathRule, NoneAbove, joined, without_rule}
 use Rattle.git_ignore.specs.inner.Stacks.{file_of, files_of}
 use Rattle.git_ignore.proofs.lemmas.Entries.{found_above}

@@ -9,7 +9,7 @@ use Rattle.std.proofs.Math.Seq.{drop-length, take-append_seam, take-length}
 use Rattle.git_ignore.specs.Folders.{IgnoreFile, files_rule}
 use Rattle.git_ignore.specs.TwoRules.{deciding, ignored_above, ignoring}
 use Rattle.git_ignore.specs.RulesValue.{FitsAsBefore, FitsRules, ScratchValue}
-use Rattle.git_ignore.specs.StackValue.{StackValue, entered, left, stack_files, with_file}
+use Rattle.git_ignore.specs.StackValue.{StackValue, entered, file_at, left, stack_files, with_file}
 use Rattle.git_ignore.specs.declared.decision.DecideBy.TheVariants.{Git}
 use Rattle.git_ignore.specs.declared.decision.DecidingRule.{DecidingRule}
 use Rattle.git_ignore.specs.declared.folder_rules.FolderRules.{FolderRules}
@@ -40,14 +40,11 @@ pub stored_files : (c : Bool) (folder : List ℕ) (b : Option DecidingRule) (fil
     → IsStack c folder b files levels scratch → stack_value c folder files levels ≡ v → files_of files ≡ stack_files v
 stored_files c folder b files levels scratch v h seen = sym (walk_files c folder (files_of files) (reverse levels) h.placed) ∙ ap stack_files seen
 
-pub stored_count : (c : Bool) (folder : List ℕ) (b : Option DecidingRule) (files : List FolderRules) (levels : List FolderLevel) (scratch : ScratchValue) (v : StackValue)
-    → IsStack c folder b files levels scratch → stack_value c folder files levels ≡ v → length (stack_files v) ≡ length files
-stored_count c folder b files levels scratch v h seen = ap length (sym (stored_files c folder b files levels scratch v h seen)) ∙ length-map files file_of
-
--- the file with this index
+-- the bytes of the file with this index
 pub stored_at : (c : Bool) (folder : List ℕ) (b : Option DecidingRule) (files : List FolderRules) (levels : List FolderLevel) (scratch : ScratchValue) (v : StackValue) (k : ℕ)
-    → IsStack c folder b files levels scratch → stack_value c folder files levels ≡ v → slice_get (stack_files v) k ≡ option_map file_of (slice_get files k)
-stored_at c folder b files levels scratch v k h seen = ap (λ (fs : List IgnoreFile). slice_get fs k) (sym (stored_files c folder b files levels scratch v h seen)) ∙ slice_get-map file_of files k
+    → IsStack c folder b files levels scratch → stack_value c folder files levels ≡ v → file_at v k ≡ option_map (λ (f : IgnoreFile). f.bytes) (option_map file_of (slice_get files k))
+stored_at c folder b files levels scratch v k h seen =
+    ap (λ (fs : List IgnoreFile). option_map (λ (f : IgnoreFile). f.bytes) (slice_get fs k)) (sym (stored_files c folder b files levels scratch v h seen)) ∙ ap (option_map (λ (f : IgnoreFile). f.bytes)) (slice_get-map file_of files k)
 
 pub stored_path : (c : Bool) (folder : List ℕ) (files : List FolderRules) (levels : List FolderLevel) (v : StackValue) → stack_value c folder files levels ≡ v → folder ≡ v.here.path
 stored_path c folder files levels v seen = sym (here_path folder (files_of files) (reverse levels)) ∙ ap (λ (v : StackValue). v.here.path) seen

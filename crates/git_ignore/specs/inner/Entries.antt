@@ -5,7 +5,7 @@ use Rattle.byte_nfa.specs.Runs.{size}
 use Rattle.byte_nfa.specs.Steps.{NfaValue}
 use Rattle.ignore_pattern.specs.Automata.{IsAutomatonOf}
 use Rattle.ignore_pattern.specs.Patterns.{Pattern}
-use Rattle.git_ignore.specs.Rules.{Rule}
+use Rattle.git_ignore.specs.Rules.{Rule, patterns_of}
 use Rattle.git_ignore.specs.RulesValue.{RulesValue, ScratchValue, FitsRules}
 use Rattle.git_ignore.specs.declared.decision.DecidingRule.{DecidingRule}
 use Rattle.git_ignore.specs.declared.entry.RuleEntry.{RuleEntry}
@@ -52,9 +52,6 @@ rule_at number (Some p) = record { line = number; pattern = p } ∷ []
 -- the number of a line, if git cannot read it
 abbrev pub unread_at : ℕ → Bool → List ℕ
 unread_at number is_unread = if is_unread then number ∷ [] else []
-
-abbrev pub patterns_of : List Rule → List Pattern
-patterns_of rules = map (λ (rule : Rule). rule.pattern) rules
 
 abbrev pub entries_of : List Rule → List RuleEntry
 entries_of rules = map entry_of rules

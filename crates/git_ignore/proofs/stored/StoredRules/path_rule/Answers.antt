@@ -2,9 +2,9 @@ use Rattle.std.proofs.Common.{◌≡◌, ◌∙◌, ℕ, ◌+◌, ◌<◌, lengt
 use Rattle.std.proofs.lemmas.List.{length-map}
 use Rattle.bit_sets.proofs.lemmas.Texts.{all_bytes}
 use Rattle.bit_sets.specs.Indexes.{has_index}
-use Rattle.git_ignore.specs.Rules.{Rule, deciding_rule, rules_of}
+use Rattle.git_ignore.specs.Rules.{Rule, deciding_rule, patterns_of, rules_of}
 use Rattle.git_ignore.specs.RulesValue.{FitsRules, ScratchValue}
-use Rattle.git_ignore.specs.inner.Entries.{StoredValue, patterns_of, rules_value}
+use Rattle.git_ignore.specs.inner.Entries.{StoredValue, rules_value}
 use Rattle.git_ignore.specs.declared.path_rule.PathRule.{PathRule}
 use Rattle.git_ignore.specs.inner.PathRules.{IsPathRule}
 use Rattle.git_ignore.proofs.lemmas.Entries.{decided_by, entry_count, found_is_last, found_matches, from_ok, pattern_count}

@@ -1,12 +1,11 @@
-use Rattle.std.proofs.Common.{◌≡◌, ap, length, refl, sym, ◌∙◌}
+use Rattle.std.proofs.Common.{◌≡◌, ◌∙◌, ap, length, refl}
 use Rattle.std.specs.Prelude.{None, Some, slice_get}
-use Rattle.std.specs.Option.{option_and_then, option_map}
+use Rattle.std.specs.Option.{option_map}
 use Rattle.std.proofs.lemmas.Option.{slice_get_past, slice_get_read}
 use Rattle.git_ignore.specs.Folders.{IgnoreFile}
-use Rattle.git_ignore.specs.Rules.{line_text_at}
 use Rattle.git_ignore.specs.inner.Stacks.{file_of}
 use Rattle.git_ignore.proofs.lemmas.Walks.{stored_at}
-use Rattle.git_ignore.proofs.stack.IgnoreStack.line_text.Goals as goal
+use Rattle.git_ignore.proofs.stack.IgnoreStack.rules_at.Goals as goal
 
 pub returns-in-Some : goal.returns-in-Some
 returns-in-Some c =
@@ -14,7 +13,7 @@ returns-in-Some c =
     let stored = stored_at c.self.inside.ignore_case c.self.inside.folder.items c.self.inside.ignored_by files c.self.inside.levels.items c.self.inside.scratch c.args.self.now c.args.file c.self.invariant c.self.view_is in
     let lookup = rw c.deref.ensures.value at c.in-Some.ensures.lookup in
     let at : slice_get files c.args.file ≡ Some c.in-Some.rules.now = slice_get_read files (length files) c.args.file c.in-Some.rules.now refl lookup.3.0 lookup.1 in
-    c.line_text.ensures ∙ sym (ap (option_and_then (λ (f : IgnoreFile). line_text_at f.bytes c.args.number)) (stored ∙ ap (option_map file_of) at))
+    stored ∙ ap (λ o. option_map (λ (f : IgnoreFile). f.bytes) (option_map file_of o)) at
 
 pub returns-in-None : goal.returns-in-None
 returns-in-None c =
@@ -22,4 +21,4 @@ returns-in-None c =
     let stored = stored_at c.self.inside.ignore_case c.self.inside.folder.items c.self.inside.ignored_by files c.self.inside.levels.items c.self.inside.scratch c.args.self.now c.args.file c.self.invariant c.self.view_is in
     let lookup = rw c.deref.ensures.value at c.in-None.ensures.lookup in
     let at : slice_get files c.args.file ≡ None = slice_get_past files c.args.file lookup.3 in
-    sym (ap (option_and_then (λ (f : IgnoreFile). line_text_at f.bytes c.args.number)) (stored ∙ ap (option_map file_of) at))
+    stored ∙ ap (λ o. option_map (λ (f : IgnoreFile). f.bytes) (option_map file_of o)) at
