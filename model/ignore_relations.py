@@ -1,9 +1,10 @@
-"""Which rules of an ignore file never decide about a path alone, and which later rules cover one, by a walk over sets of
-states.
+"""Which rules of an ignore file never decide about a path, which later rules cover one, and which ignore the folders above all
+paths that one decides about alone, by a walk over sets of states.
 
 The elements of a pattern, as `git_rules.py` reads them, become states that read a byte, like those of globs in `relations.py`.
 The walk reads the same bytes with all patterns of a file. So it finds each set of rules that match some relative path which no
-other rule matches, and a shortest such path. There are finitely many sets, and all answers follow from them.
+other rule matches, with each set of rules that ignore folders above such a path, and a shortest such path. There are finitely
+many sets, and all answers follow from them.
 """
 
 from functools import lru_cache
@@ -48,23 +49,37 @@ def states_of(elements, whole):
     return PatternStates(elements, whole)
 
 
+def matched_by(sets):
+    """Returns the indexes of the patterns that match the path that led to these sets of states, one for each pattern."""
+    return frozenset(index for index, states in enumerate(sets) if 0 in states)
+
+
+def ignoring(patterns, sets):
+    """Returns the index of the pattern that ignores the folder that led to these sets of states, if there is one."""
+    last = max(matched_by(sets), default=None)
+    return frozenset() if last is None or patterns[last].negated else frozenset([last])
+
+
 def matched_together(patterns):
-    """Returns the sets of indexes of patterns that match some relative path which the others do not match, each with a shortest
-    such path, by the length of these."""
+    """Returns the sets of indexes of patterns that match some relative path which the others do not match, each with a set of
+    those that ignore the folders above such a path, and a shortest such path, by the length of these."""
     all_states = [states_of(pattern.elements, pattern.whole) for pattern in patterns]
     tried = bytes_to_try(*all_states)
-    start = tuple(states.start for states in all_states), b""
+    start = tuple(states.start for states in all_states), b"", frozenset()
     paths, level, found = {start: b""}, [start], {}
     while level:
         following = []
         for row in level:
-            sets, component = row
+            sets, component, above = row
             if component == b"a":
-                found.setdefault(frozenset(index for index, states in enumerate(sets) if 0 in states), paths[row])
+                found.setdefault((matched_by(sets), above), paths[row])
             for byte in tried:
                 last = after_byte(component, byte)
-                after = tuple(states.after(it, byte) for states, it in zip(all_states, sets)), last
-                if last is not None and after not in paths:
+                if last is None:
+                    continue
+                below = above | ignoring(patterns, sets) if byte == ord("/") else above
+                after = tuple(states.after(it, byte) for states, it in zip(all_states, sets)), last, below
+                if after not in paths:
                     paths[after] = paths[row] + bytes([byte])
                     following.append(after)
         if len(paths) > MOST_ROWS:
@@ -79,20 +94,38 @@ class IgnoreRelations:
     def __init__(self, text):
         self.rules = dict(rules_of(text, False))
         numbers, found = list(self.rules), matched_together(list(self.rules.values()))
-        # the sets of rules that match some path together, and a shortest path for each, by the length of these
-        self.paths = {frozenset(numbers[index] for index in indexes): path for indexes, path in found.items()}
+        # the sets of rules that match some path together, the rules that ignore folders above it, and a shortest path for each,
+        # by the length of these
+        self.rows, self.paths = [], {}
+        for sets, path in found.items():
+            matched, above = (frozenset(numbers[index] for index in indexes) for indexes in sets)
+            self.rows.append((matched, above, path))
+            self.paths.setdefault(matched, path)
 
     def last(self, numbers, is_folder):
         """Returns the last of some rules that applies to a path of a folder, or of something else, that they match, or None."""
         return max((number for number in numbers if is_folder or not self.rules[number].folders_only), default=None)
 
-    def decided(self):
-        """Returns for each rule that ever decides a shortest path that it decides about alone, and whether it is a folder's."""
+    def decided(self, shown=False):
+        """Returns for each rule that ever decides a shortest path that it decides about alone, and whether it is a folder's; or
+        only of paths that do not lie below an ignored folder."""
         found = {}
-        for numbers, path in self.paths.items():
+        for numbers, above, path in self.rows:
             for is_folder in (False, True):
-                found.setdefault(self.last(numbers, is_folder), (path, is_folder))
+                if not (shown and above):
+                    found.setdefault(self.last(numbers, is_folder), (path, is_folder))
         found.pop(None, None)
+        return found
+
+    def hidden(self):
+        """Returns for each rule that decides about paths alone, but only below ignored folders, the rules that ignore a folder
+        above a shortest of these paths."""
+        decided, shown = self.decided(), self.decided(shown=True)
+        found = {number: set() for number in decided if number not in shown}
+        for numbers, above, path in self.rows:
+            for number in {self.last(numbers, is_folder) for is_folder in (False, True)} & set(found):
+                if len(path) == len(decided[number][0]):
+                    found[number] |= above
         return found
 
     def rivals(self, number):

@@ -1,5 +1,6 @@
 pub mod Domains
 pub mod Passes
+pub mod Closed
 pub mod Listing
 pub mod Classes
 pub mod Equal
@@ -10,6 +11,7 @@ pub mod Told
 pub mod Patterns
 pub mod Rivals
 pub mod Finding
+pub mod Hiding
 pub mod Indexes
 pub mod Unused
 pub mod Laws

@@ -1,6 +1,8 @@
 -- Rules of an ignore file that never decide. Each rule is given by its pattern, in the order of the lines, and named by its index.
-use Rattle.std.specs.Prelude.{◌≡◌, ◌≢◌, ℕ, ◌<◌, Bool, true, not, ◌&&◌, ◌||◌, List, [], ◌∷◌, ◌++◌, length, Contains, Some, slice_get, IsTrue, IsFalse}
+use Rattle.std.specs.Prelude.{◌≡◌, ◌≢◌, ℕ, ◌<◌, ◌⊎◌, Bool, true, not, ◌&&◌, ◌||◌, List, [], ◌∷◌, ◌++◌, length, Contains, Some, slice_get, IsTrue, IsFalse}
+use Rattle.byte_nfa.specs.Steps.{NfaValue}
 use Rattle.ignore_pattern.specs.Patterns.{Pattern, pattern_matches}
+use Rattle.ignore_pattern.specs.Compared.{Compares}
 use Rattle.glob_relations.specs.Domains.{IsIn}
 use Rattle.glob_relations.specs.Patterns.{IsPatternCovered, patterns_at, TellsPatternCovering}
 use Rattle.glob_relations.specs.Shortest.{IsShortest}
@@ -8,6 +10,8 @@ use Rattle.glob_relations.specs.declared.domain.Domain.{Domain}
 use Rattle.glob_relations.specs.declared.relations.Coverage.TheVariants.{Unknown}
 use Rattle.glob_relations.specs.declared.rules.RuleReachability.{RuleReachability}
 use Rattle.glob_relations.specs.declared.rules.RuleReachability.TheVariants.{Decides as DecidesFor, Never, Hidden, Unknown as Undecided}
+use Rattle.glob_relations.specs.inner.Compared.{indexed_rules}
+use Rattle.glob_relations.specs.inner.Rows.{HasMoreRows}
 
 -- The rule applies to the path, of a folder or of something else: it matches the path, which has to be a folder if the rule is
 -- for folders alone.
@@ -36,11 +40,15 @@ IsHiddenBy ignore_case ps path k = (folder : List ℕ) × (rest : List ℕ) × (
 abbrev pub IsHidden : Bool → List Pattern → List ℕ → Type 0
 IsHidden ignore_case ps path = (k : ℕ) × IsHiddenBy ignore_case ps path k
 
--- The rule decides about some paths alone, and each of them lies below an ignored folder. The rule of the index k ignores a folder
--- above a shortest one.
+-- the rule decides about the path by git's rule: alone, and no folder above it is ignored
+abbrev pub IsDecided : Bool → List Pattern → ℕ → Pattern → Domain → List ℕ → Type 0
+IsDecided ignore_case ps i p domain path = IsDecidedAlone ignore_case ps i p domain path × (IsHidden ignore_case ps path → ⊥)
+
+-- The rule decides about no path by git's rule, but about some alone. The rule of the index k ignores a folder above a shortest
+-- one.
 pub record IsRuleHidden (ignore_case : Bool) (ps : List Pattern) (i : ℕ) (p : Pattern) (domain : Domain) (k : ℕ) : Type 0 where
-  pub each : (path : List ℕ) → IsDecidedAlone ignore_case ps i p domain path → IsHidden ignore_case ps path
-  pub shortest : (path : List ℕ) × IsShortest (IsDecidedAlone ignore_case ps i p domain) path × IsHiddenBy ignore_case ps path k
+  pub never : (path : List ℕ) → IsDecided ignore_case ps i p domain path → ⊥
+  pub alone : (path : List ℕ) × IsShortest (IsDecidedAlone ignore_case ps i p domain) path × IsHiddenBy ignore_case ps path k
 
 -- the rule of the index k comes later, and applies to folders and to others wherever the rule of the index i does
 abbrev pub IsRival : List Pattern → ℕ → Pattern → ℕ → Type 0
@@ -55,11 +63,15 @@ pub record NeverDecides (ignore_case : Bool) (ps : List Pattern) (i : ℕ) (p : 
   pub least : (k : ℕ) → Contains set k → (rest : List ℕ) → ((j : ℕ) → Contains rest j → Contains set j × (j ≢ k)) → IsPatternCovered ignore_case p (patterns_at ps rest) domain → ⊥
   pub single : 1 < length set → (k : ℕ) → IsRival ps i p k → IsPatternCovered ignore_case p (patterns_at ps (k ∷ [])) domain → ⊥
 
--- The answer is right: the path is a shortest path about which the rule decides alone; or the rule never decides, and the set is a
--- least cover by rivals; or the rule is hidden; or paths lead to more than `limit` different rows of an automaton for the rule and
--- some of its rivals.
+-- paths lead to more than `limit` different rows of an automaton for the rule and some of its rivals, or for these and all rules
+abbrev pub HasTooMany : Bool → List Pattern → ℕ → Pattern → Domain → ℕ → Type 0
+HasTooMany ignore_case ps i p domain limit = (by : List ℕ) × ((k : ℕ) → Contains by k → IsRival ps i p k)
+    × (TellsPatternCovering ignore_case p (patterns_at ps by) domain limit Unknown ⊎ ((m : NfaValue) × Compares ignore_case (indexed_rules p (patterns_at ps by) ps) m × HasMoreRows m domain limit))
+
+-- The answer is right: the path is a shortest path about which the rule decides; or the rule never decides, and the set is a
+-- least cover by rivals; or the rule is hidden; or there are more rows than the limit.
 abbrev pub TellsRule : Bool → List Pattern → ℕ → Pattern → Domain → ℕ → RuleReachability → Type 0
-TellsRule ignore_case ps i p domain limit (DecidesFor path) = IsShortest (IsDecidedAlone ignore_case ps i p domain) path.items
+TellsRule ignore_case ps i p domain limit (DecidesFor path) = IsShortest (IsDecided ignore_case ps i p domain) path.items
 TellsRule ignore_case ps i p domain limit (Never set) = NeverDecides ignore_case ps i p domain set.items
 TellsRule ignore_case ps i p domain limit (Hidden k) = IsRuleHidden ignore_case ps i p domain k
-TellsRule ignore_case ps i p domain limit Undecided = (by : List ℕ) × ((k : ℕ) → Contains by k → IsRival ps i p k) × TellsPatternCovering ignore_case p (patterns_at ps by) domain limit Unknown
+TellsRule ignore_case ps i p domain limit Undecided = HasTooMany ignore_case ps i p domain limit

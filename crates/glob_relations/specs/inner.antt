@@ -1,4 +1,5 @@
 pub mod Places
+pub mod Closed
 pub mod Rows
 pub mod Leading
 pub mod Memory

@@ -1,13 +1,15 @@
 //! Which patterns of a list match a path.
 
-ghost use Rattle.std.specs.Prelude.{◌≡◌, ℕ, ◌<◌, ◌↔◌, length, Contains, IfOk, IsTrue, IsFalse, MatchOption};
+ghost use Rattle.std.specs.Prelude.{◌≡◌, ℕ, ◌+◌, ◌<◌, ◌≤◌, ◌↔◌, List, ◌++◌, length, Contains, IfOk, OnOk, IsTrue, IsFalse, MatchOption};
 ghost use Rattle.bit_sets.specs.Indexes.{has_index};
 ghost use Rattle.byte_nfa.specs.Steps.{IsReached};
+ghost use Rattle.ignore_pattern.specs.Compared.{IndexedPattern, Compares};
+ghost use Rattle.glob_relations.specs.inner.Compared.{numbered};
 ghost use Rattle.glob_relations.specs.inner.Finding.{FindsEach};
 
 use crate::pass::step_set;
 use bit_sets::{IndexSet, StateSet};
-use byte_nfa::Nfa;
+use byte_nfa::{Builder, Nfa};
 use ignore_pattern::{IgnorePattern, add_pattern, new_builder};
 use std::alloc::{AllocError, Global};
 use std::mem;
@@ -21,10 +23,27 @@ pub fn automaton_of_list(
     ensures { IfOk result (FindsEach ignore_case patterns.now) }
 {
     let mut builder = new_builder(alloc, patterns.len());
-    for (k, pattern) in patterns.iter().enumerate() {
-        add_pattern(&mut builder, ignore_case, pattern, k)?;
-    }
+    add_numbered(&mut builder, ignore_case, patterns, 0)?;
     Ok(builder.finish())
+}
+
+/// Adds the patterns of a list to an automaton that is being built, each under the next index, from `first` on.
+pub fn add_numbered(
+    builder: &mut Builder,
+    ignore_case: bool,
+    patterns: &[IgnorePattern],
+    first: usize,
+) -> Result<(), AllocError>
+    requires first { first ≤ 2 }
+    requires count { first + length patterns.now ≤ builder.old.index_count }
+    ensures { OnOk result
+        ((xs : List IndexedPattern) → Compares ignore_case xs builder.old
+        → Compares ignore_case (xs ++ numbered first patterns.now) builder.new) }
+{
+    for (k, pattern) in patterns.iter().enumerate() {
+        add_pattern(builder, ignore_case, pattern, first + k)?;
+    }
+    Ok(())
 }
 
 /// Returns the indexes that an automaton leads a path to.

@@ -19,6 +19,7 @@
 mod classes;
 mod domain;
 mod finding;
+mod ignoring;
 mod indexes;
 pub mod laws;
 mod leading;

@@ -1,7 +1,7 @@
 //! Steps of an automaton over lists of states.
 
 ghost use Rattle.std.specs.Prelude.{◌≡◌, ℕ, ◌<◌, ◌≤◌, ◌||◌, ◌↔◌, ◌∷◌, [], List, Some, IsTrue, IfOk};
-ghost use Rattle.bit_sets.specs.Indexes.{index_capacity};
+ghost use Rattle.bit_sets.specs.Indexes.{has_index, index_capacity};
 ghost use Rattle.bit_sets.specs.Numbers.{has_number, AreBelow};
 ghost use Rattle.bit_sets.specs.StateSets.{has_state, state_capacity};
 ghost use Rattle.byte_nfa.specs.Runs.{size, AcceptsFrom};
@@ -104,10 +104,23 @@ pub fn is_wanted(
     ensures wanted { IsTrue result
         ↔ IsWantedBy required (AcceptsIn automaton.now states.now []) }
 {
+    ends_of(automaton, states, from, ends);
+    ends.has_all_below(required) && !ends.has(required)
+}
+
+/// Makes a set hold the ends that the states of a list lead to without a byte, and no others.
+pub fn ends_of(automaton: &Nfa, states: &[usize], from: &mut StateSet, ends: &mut IndexSet)
+    requires below { AreBelow (size automaton.now) states.now }
+    requires from_capacity { size automaton.now ≤ state_capacity from.old }
+    requires ends_capacity { automaton.now.index_count ≤ index_capacity ends.old }
+    ensures from_capacity { state_capacity from.new ≡ state_capacity from.old }
+    ensures ends_capacity { index_capacity ends.new ≡ index_capacity ends.old }
+    ensures ends { (k : ℕ)
+        → IsTrue (has_index ends.new k) ↔ AcceptsIn automaton.now states.now [] k }
+{
     load(automaton, states, from);
     ends.clear();
     automaton.ends(from, ends);
-    ends.has_all_below(required) && !ends.has(required)
 }
 
 /// Returns the states of a set, from the highest to the lowest.

@@ -38,6 +38,27 @@ const RULES: [(&[&str], &[Option<&[usize]>]); 9] = [
     (&[], &[]),
 ];
 
+/// Lines, the number of one of them, and a shortest path about which its rule decides, or the number of the line that hides it.
+const HIDDEN: [(&[&str], usize, Result<&str, usize>); 17] = [
+    (&["/out/", "/out/a"], 1, Err(0)),
+    (&["/out/", "!/out/", "/out/a"], 2, Ok("out/a")),
+    (&["/out/", "out"], 1, Ok("out")),
+    (&["/out/", "!/out/keep"], 1, Err(0)),
+    (&["/out", "!/out/keep"], 1, Err(0)),
+    (&["/out/", "/out/*.tmp", "!/out/"], 1, Ok("out/.tmp")),
+    (&["*", "!/a/b"], 1, Err(0)),
+    (&["/*", "!/a/", "!/a/b"], 2, Ok("a/b")),
+    (&["/*", "!/a", "/a/*", "!/a/b"], 3, Ok("a/b")),
+    (&["a/", "!b"], 1, Ok("b")),
+    (&["/*", "!/a/", "/a/b/", "!/a/b/c"], 3, Err(2)),
+    (&["a/", "[ab]/c"], 1, Ok("b/c")),
+    (&["/a/", "/a[!d]/", "/a*/c"], 2, Ok("ad/c")),
+    (&["x/y/", "x/y/z/w"], 1, Err(0)),
+    (&["x/", "y/", "!x/y/z"], 2, Err(0)),
+    (&["/?/", "/[!a]?/", "/a[!b]/", "/*/x"], 3, Ok("ab/x")),
+    (&["/b/", "/a/", "!/a/c"], 2, Err(1)),
+];
+
 fn patterns(alloc: Global, lines: &[&str]) -> Result<Vec<IgnorePattern>, AllocError> {
     let mut patterns = Vec::new(alloc);
     for line in lines {
@@ -68,6 +89,24 @@ fn patterns_cover(rt: HostRuntime) -> Result<(), AllocError> {
             };
             assert!(rt; is_right, "row {row}");
         }
+    }
+    Ok(())
+}
+
+fn is_as_shown(told: Option<&RuleReachability>, wanted: &Result<&str, usize>) -> bool {
+    match (told, wanted) {
+        (Some(RuleReachability::Decides(path)), Ok(wanted)) => path.as_slice() == wanted.as_bytes(),
+        (Some(RuleReachability::Hidden(by)), Err(wanted)) => by == wanted,
+        _ => false,
+    }
+}
+
+#[test]
+fn ignored_folders_hide_rules(rt: HostRuntime) -> Result<(), AllocError> {
+    for (row, (lines, rule, wanted)) in HIDDEN.iter().enumerate() {
+        let list = patterns(rt.alloc(), lines)?;
+        let told = unreachable_rules(rt.alloc(), &list, false, Domain::RelativePaths, 1000)?;
+        assert!(rt; is_as_shown(told.get(*rule), wanted), "row {row}");
     }
     Ok(())
 }

@@ -1,6 +1,6 @@
 //! The questions about patterns of ignore files.
 
-ghost use Rattle.std.specs.Prelude.{◌≡◌, ℕ, ◌<◌, ◌∷◌, length, Contains, IfOk};
+ghost use Rattle.std.specs.Prelude.{◌≡◌, ℕ, ◌<◌, ◌≤◌, ◌∷◌, length, Contains, IfOk};
 ghost use Rattle.ignore_pattern.specs.Compared.{Compares, indexed};
 ghost use Rattle.glob_relations.specs.Patterns.{TellsPatternCovering, patterns_at};
 ghost use Rattle.glob_relations.specs.inner.Compared.{indexed_all};
@@ -8,7 +8,7 @@ ghost use Rattle.glob_relations.specs.inner.Compared.{indexed_all};
 use crate::domain::Domain;
 use crate::relations::{Coverage, coverage_of};
 use crate::search::search;
-use byte_nfa::Nfa;
+use byte_nfa::{Builder, Nfa};
 use ignore_pattern::{IgnorePattern, add_pattern, new_builder};
 use std::alloc::{AllocError, Global};
 
@@ -68,28 +68,32 @@ pub(crate) fn covering_at(
         (TellsPatternCovering ignore_case pattern.now (patterns_at patterns.now by.now) domain
         limit) }
 {
-    let automaton = automaton_at(alloc, pattern, patterns, by, ignore_case)?;
+    let automaton = builder_at(alloc, 2, pattern, patterns, by, ignore_case)?.finish();
     let answer = search(alloc, &automaton, 1, domain, limit)?;
     Ok(coverage_of(answer))
 }
 
-/// Returns an automaton for a pattern, with the index 0, and for the patterns of a list at these indexes, with the index 1.
-fn automaton_at(
+/// Returns a builder of an automaton for a pattern, with the index 0, and for the patterns of a list at these indexes, with the
+/// index 1.
+pub(crate) fn builder_at(
     alloc: Global,
+    index_count: usize,
     pattern: &IgnorePattern,
     patterns: &[IgnorePattern],
     by: &[usize],
     ignore_case: bool,
-) -> Result<Nfa, AllocError>
-    requires { (k : ℕ) → Contains by.now k → k < length patterns.now }
-    ensures { IfOk result
+) -> Result<Builder, AllocError>
+    requires count { 2 ≤ index_count }
+    requires within { (k : ℕ) → Contains by.now k → k < length patterns.now }
+    ensures count { IfOk result (λ builder. builder.index_count ≡ index_count) }
+    ensures compares { IfOk result
         (Compares ignore_case
         (indexed 0 pattern.now ∷ indexed_all 1 (patterns_at patterns.now by.now))) }
 {
-    let mut builder = new_builder(alloc, 2);
+    let mut builder = new_builder(alloc, index_count);
     add_pattern(&mut builder, ignore_case, pattern, 0)?;
     for k in by {
         add_pattern(&mut builder, ignore_case, &patterns[*k], 1)?;
     }
-    Ok(builder.finish())
+    Ok(builder)
 }

@@ -32,6 +32,7 @@ pub struct Rows {
 
 impl Rows {
     ghost use Rattle.glob_relations.specs.declared.domain.Domain.{Domain};
+    ghost use Rattle.glob_relations.specs.declared.search.Question.{Question};
     ghost use Rattle.glob_relations.specs.inner.Rows.{AddsRow, AreDifferent, AreRows, HasRow, IsDeep, WantsRow, WantsFrom};
 
     /// Returns no rows. It allocates nothing.
@@ -80,8 +81,8 @@ impl Rows {
             → slice_get self.now.origins.items i ≡ Some origin
             → (origin.row < i) × (origin.byte < 256) }
         ensures path { IfOk result
-            (λ path. (m : NfaValue) (n : ℕ) (domain : Domain) (row : Row)
-            → AreRows m domain self.now → HasRow self.now number row → WantsRow m n row []
+            (λ path. (m : NfaValue) (n : Question) (domain : Domain) (row : Row)
+            → AreRows m n domain self.now → HasRow self.now number row → WantsRow m n row []
             → WantsFrom m n domain path.items) }
         ensures bytes { IfOk result (λ path. AllBytes path.items) }
         ensures length { IfOk result

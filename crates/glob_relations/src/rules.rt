@@ -2,19 +2,24 @@
 
 ghost use Rattle.std.specs.Prelude.{◌≡◌, ℕ, ◌<◌, ◌||◌, not, ◌∷◌, [], length, Contains, slice_get, Some, IfOk, IsTrue, IsFalse, MatchOption, ◌↔◌};
 ghost use Rattle.bit_sets.specs.Indexes.{has_index};
+ghost use Rattle.ignore_pattern.specs.Compared.{Compares};
 ghost use Rattle.ignore_pattern.specs.Patterns.{Pattern};
 ghost use Rattle.glob_relations.specs.Patterns.{IsPatternCovered, IsPatternMissed, TellsPatternCovering, patterns_at};
-ghost use Rattle.glob_relations.specs.Rules.{IsRival, TellsRule};
+ghost use Rattle.glob_relations.specs.Rules.{IsDecidedAlone, IsRival, TellsRule};
 ghost use Rattle.glob_relations.specs.Shortest.{IsShortest};
 ghost use Rattle.glob_relations.specs.declared.relations.Coverage.TheVariants.{Unknown};
+ghost use Rattle.glob_relations.specs.inner.Closed.{ignores_of};
+ghost use Rattle.glob_relations.specs.inner.Compared.{indexed_rules};
 ghost use Rattle.glob_relations.specs.inner.Finding.{FindsEach};
 ghost use Rattle.glob_relations.specs.inner.Rivals.{TellsAmong};
 
 use crate::domain::Domain;
-use crate::finding::{automaton_of_list, found_indexes, place_of_found};
+use crate::finding::{add_numbered, automaton_of_list, found_indexes, place_of_found};
+use crate::ignoring::{hiding_rule, ignores_of};
 use crate::indexes::without;
-use crate::patterns::covering_at;
+use crate::patterns::{builder_at, covering_at};
 use crate::relations::Coverage;
+use crate::search::{Answer, Question, ask};
 use crate::unused::Reachability;
 use bit_sets::IndexSet;
 use byte_nfa::Nfa;
@@ -27,26 +32,27 @@ pub enum RuleReachability {
     /// A shortest path about which the rule decides: it applies to it, no later rule does, and no folder above the path is
     /// ignored.
     Decides(Vec<u8>),
-    /// It never decides: later rules of these indexes cover it. None can be left out. It is one index if one of them covers the rule
-    /// alone, and none if the rule matches no path of the domain.
+    /// It never decides: later rules of these indexes cover it. None can be left out. It is one index if one of them covers the
+    /// rule alone, and none if the rule matches no path of the domain.
     Never(Vec<usize>),
-    /// It never decides: each path about which it decides alone lies below an ignored folder. The rule of this index ignores a folder
-    /// above one of these paths, a shortest one.
+    /// It never decides: each path about which it decides alone lies below an ignored folder. The rule of this index ignores a
+    /// folder above one of these paths, a shortest one.
     Hidden(usize),
     /// There are more rows than the limit.
     Unknown,
 }
 
 /// Returns for each rule of an ignore file, given by its pattern in the order of the lines, whether it ever decides about a path
-/// of a domain alone, and otherwise which later rules cover it.
+/// of a domain, and otherwise which later rules cover it, or which rule hides it.
 ///
 /// The last rule that applies decides. A rule for folders alone applies to no other path, so it covers only rules for folders
-/// alone. Which rules are negated has no effect, nor has what is decided about the folders above a path. Patterns match as
-/// `core.ignoreCase` of git says.
+/// alone. A folder is ignored if the rule that decides about it is not negated, and then no other rule decides about a path below
+/// it, whether that is negated or not. Patterns match as `core.ignoreCase` of git says.
 ///
 /// For each rule it searches for a shortest path that the rule matches. If a rival, a later rule that applies to folders and to
 /// others wherever it does, matches that path, it searches again, as [`covering_pattern`] does, with this rival, and so on, as
-/// [`unreachable`] does for globs. Each search has the limit. Fails only if memory runs out.
+/// [`unreachable`] does for globs. If the path that shows that the rule decides lies below an ignored folder, it searches once
+/// more, among all rules, for a path that does not. Each search has the limit. Fails only if memory runs out.
 ///
 /// [`covering_pattern`]: crate::covering_pattern
 /// [`unreachable`]: crate::unreachable
@@ -64,9 +70,24 @@ pub fn unreachable_rules(
         → TellsRule ignore_case patterns.now i p domain limit told) }
 {
     let automaton = automaton_of_list(alloc, patterns, ignore_case)?;
+    let ignores = ignores_of(alloc, patterns)?;
+    let question = Question {
+        required: 1,
+        ignores,
+    };
     let mut all = Vec::new(alloc);
     for i in 0..patterns.len() {
-        all.push(rule_reachability(alloc, patterns, &automaton, i, ignore_case, domain, limit)?)?;
+        let told = rule_reachability(
+            alloc,
+            patterns,
+            &automaton,
+            &question,
+            i,
+            ignore_case,
+            domain,
+            limit,
+        )?;
+        all.push(told)?;
     }
     Ok(all)
 }
@@ -76,6 +97,7 @@ fn rule_reachability(
     alloc: Global,
     patterns: &[IgnorePattern],
     automaton: &Nfa,
+    question: &Question,
     i: usize,
     ignore_case: bool,
     domain: Domain,
@@ -83,6 +105,8 @@ fn rule_reachability(
 ) -> Result<RuleReachability, AllocError>
     requires within { i < length patterns.now }
     requires finds { FindsEach ignore_case patterns.now automaton.now }
+    requires required { question.now.required ≡ 1 }
+    requires ignores { question.now.ignores.items ≡ ignores_of patterns.now }
     ensures { IfOk result
         (λ told. (p : Pattern) → slice_get patterns.now i ≡ Some p
         → TellsRule ignore_case patterns.now i p domain limit told) }
@@ -100,10 +124,77 @@ fn rule_reachability(
         limit,
     )?;
     match alone {
-        Reachability::Decides(path) => Ok(RuleReachability::Decides(path)),
+        Reachability::Decides(path) => decide_by_git(
+            alloc,
+            pattern,
+            patterns,
+            automaton,
+            question,
+            i,
+            &others,
+            path,
+            ignore_case,
+            domain,
+            limit,
+        ),
         Reachability::Never(set) => Ok(RuleReachability::Never(set)),
         Reachability::Unknown => Ok(RuleReachability::Unknown),
     }
+}
+
+/// Returns whether a rule decides by git's rule. The path is a shortest one about which it decides alone. Only if an ignored
+/// folder is above it, there is a search for a path with none.
+fn decide_by_git(
+    alloc: Global,
+    pattern: &IgnorePattern,
+    patterns: &[IgnorePattern],
+    automaton: &Nfa,
+    question: &Question,
+    i: usize,
+    others: &[usize],
+    path: Vec<u8>,
+    ignore_case: bool,
+    domain: Domain,
+    limit: usize,
+) -> Result<RuleReachability, AllocError>
+    requires finds { FindsEach ignore_case patterns.now automaton.now }
+    requires required { question.now.required ≡ 1 }
+    requires ignores { question.now.ignores.items ≡ ignores_of patterns.now }
+    requires others { (k : ℕ) → Contains others.now k ↔ IsRival patterns.now i pattern.now k }
+    requires path { IsShortest (IsDecidedAlone ignore_case patterns.now i pattern.now domain)
+        path.items }
+    ensures { IfOk result (TellsRule ignore_case patterns.now i pattern.now domain limit) }
+{
+    let _i = i;
+    let Some(k) = hiding_rule(alloc, automaton, &question.ignores, &path)? else {
+        return Ok(RuleReachability::Decides(path));
+    };
+    let all = automaton_of_rule(alloc, pattern, patterns, others, ignore_case)?;
+    match ask(alloc, &all, question, domain, limit)? {
+        Answer::Found(shown) => Ok(RuleReachability::Decides(shown)),
+        Answer::Nothing => Ok(RuleReachability::Hidden(k)),
+        Answer::Limit => Ok(RuleReachability::Unknown),
+    }
+}
+
+/// Returns an automaton for a rule, with the index 0, for rules at some indexes, with the index 1, and for all rules, each with
+/// the next index.
+fn automaton_of_rule(
+    alloc: Global,
+    pattern: &IgnorePattern,
+    patterns: &[IgnorePattern],
+    others: &[usize],
+    ignore_case: bool,
+) -> Result<Nfa, AllocError>
+    requires { (k : ℕ) → Contains others.now k → k < length patterns.now }
+    ensures { IfOk result
+        (Compares ignore_case
+        (indexed_rules pattern.now (patterns_at patterns.now others.now) patterns.now)) }
+{
+    let count = patterns.len() + 2;
+    let mut builder = builder_at(alloc, count, pattern, patterns, others, ignore_case)?;
+    add_numbered(&mut builder, ignore_case, patterns, 2)?;
+    Ok(builder.finish())
 }
 
 /// Returns the indexes of the later rules that apply to each kind of path, of folders or of others, that a rule applies to.

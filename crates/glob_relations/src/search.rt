@@ -1,19 +1,19 @@
 //! A search for a path: breadth first, over the rows that paths lead to.
 
-ghost use Rattle.std.specs.Prelude.{◌≡◌, ℕ, ◌+◌, ◌<◌, ◌≤◌, ◌↔◌, ◌∷◌, [], List, length, None, IsTrue, IfOk, OnOk, MatchOption};
+ghost use Rattle.std.specs.Prelude.{◌≡◌, ℕ, ◌+◌, ◌<◌, ◌≤◌, ◌↔◌, ◌∷◌, [], List, length, IsTrue, IfOk, OnOk, MatchOption};
 ghost use Rattle.bit_sets.specs.Indexes.{index_capacity};
 ghost use Rattle.bit_sets.specs.Numbers.{AreBelow};
 ghost use Rattle.bit_sets.specs.StateSets.{state_capacity};
 ghost use Rattle.byte_nfa.specs.Runs.{size};
-ghost use Rattle.glob_relations.specs.inner.Rows.{AreRepresentatives, AreRows, AreStates, AreDone, GoesTo, CameBefore, HasRow, IsFollowed, IsFollowedBy, KeepsRows, TellsSearch, WantsRow};
+ghost use Rattle.glob_relations.specs.inner.Rows.{AreRepresentatives, AreRows, AreStates, AreDone, GoesNowhere, GoesTo, CameBefore, HasRow, IsFollowed, IsFollowedBy, IsStopped, KeepsRows, TellsAsked, TellsSearch, WantsRow};
 ghost use Rattle.glob_relations.specs.inner.Leading.{AreLeading};
 ghost use Rattle.glob_relations.specs.inner.Memory.{HasRoom};
-ghost use Rattle.glob_relations.specs.inner.Places.{place_after};
 
 use crate::classes::representatives;
 use crate::domain::Domain;
+use crate::ignoring::ignoring_rule;
 use crate::leading::{has_leading, leading};
-use crate::pass::{is_wanted, states_of, step};
+use crate::pass::{ends_of, is_wanted, states_of, step};
 use crate::rows::{Origin, Row, Rows};
 use bit_sets::{IndexSet, StateSet};
 use byte_nfa::Nfa;
@@ -54,6 +54,19 @@ impl Memory {
     }
 }
 
+/// What a search looks for.
+#[derive(Drop)]
+pub struct Question {
+    /// A path is wanted if it is read to ends of all indexes below this number, and to no end of this index.
+    pub required: usize,
+    /// For each of some rules, whether it ignores folders, or keeps them. Its index is `FIRST_RULE` and its number together. A
+    /// path is not wanted if the last rule that applies to a folder above it ignores folders.
+    pub ignores: Vec<bool>,
+}
+
+/// The index of the first rule of a question.
+const FIRST_RULE: usize = 2;
+
 /// Looks for a shortest path of a domain that an automaton reads to ends of all indexes below `required`, and to no end of
 /// `required`.
 ///
@@ -68,23 +81,39 @@ pub fn search(
     requires { 0 < required }
     ensures { IfOk result (TellsSearch automaton.now required domain limit) }
 {
+    let ignores = Vec::new(alloc);
+    let question = Question { required, ignores };
+    ask(alloc, automaton, &question, domain, limit)
+}
+
+/// Looks for a shortest path of a domain that a question wants, as [`search`] does.
+pub fn ask(
+    alloc: Global,
+    automaton: &Nfa,
+    question: &Question,
+    domain: Domain,
+    limit: usize,
+) -> Result<Answer, AllocError>
+    requires { 0 < question.now.required }
+    ensures { IfOk result (TellsAsked automaton.now question.now domain limit) }
+{
     let mut memory = Memory::new(alloc, automaton)?;
     let bytes = representatives(alloc, automaton)?;
     let leading = leading(alloc, automaton, 0)?;
-    let mut rows = first_rows(alloc, automaton, domain, &mut memory)?;
+    let mut rows = first_rows(alloc, automaton, question, domain, &mut memory)?;
     let mut next = 0;
     while next < rows.len() {
         if rows.len() > limit {
             return Ok(Answer::Limit);
         }
-        if is_row_wanted(automaton, required, rows.row(next), &mut memory) {
+        if is_row_wanted(automaton, question, rows.row(next), &mut memory) {
             let path = rows.path_to(alloc, next)?;
             return Ok(Answer::Found(path));
         }
         expand(
             alloc,
             automaton,
-            required,
+            question,
             domain,
             &bytes,
             &leading,
@@ -101,14 +130,16 @@ pub fn search(
 fn first_rows(
     alloc: Global,
     automaton: &Nfa,
+    question: &Question,
     domain: Domain,
     memory: &mut Memory,
 ) -> Result<Rows, AllocError>
     requires { HasRoom automaton.now memory.old }
     ensures room { HasRoom automaton.now memory.new }
-    ensures rows { IfOk result (AreRows automaton.now domain) }
+    ensures rows { IfOk result (AreRows automaton.now question.now domain) }
     ensures before { IfOk result (λ rows. CameBefore rows 0) }
 {
+    let _question = question;
     automaton.start(&mut memory.from);
     let states = states_of(alloc, &memory.from, automaton.state_count())?;
     let mut rows = Rows::new(alloc);
@@ -118,26 +149,50 @@ fn first_rows(
 }
 
 /// Returns whether a path that leads to a row is wanted.
-fn is_row_wanted(automaton: &Nfa, required: usize, row: &Row, memory: &mut Memory) -> bool
+fn is_row_wanted(automaton: &Nfa, question: &Question, row: &Row, memory: &mut Memory) -> bool
     requires room { HasRoom automaton.now memory.old }
     requires states { AreStates (size automaton.now) row.now.states.items }
     ensures room { HasRoom automaton.now memory.new }
-    ensures wanted { IsTrue result ↔ WantsRow automaton.now required row.now [] }
+    ensures wanted { IsTrue result ↔ WantsRow automaton.now question.now row.now [] }
 {
     row.place.is_last()
         && is_wanted(
             automaton,
-            required,
+            question.required,
             &row.states,
             &mut memory.from,
             &mut memory.ends,
         )
 }
 
-/// Returns the row after a byte, or `None` if no path of the domain goes on so.
+/// Returns whether a byte after a row leads below an ignored folder.
+fn is_stopped(
+    automaton: &Nfa,
+    question: &Question,
+    row: &Row,
+    byte: u8,
+    memory: &mut Memory,
+) -> bool
+    requires room { HasRoom automaton.now memory.old }
+    requires states { AreStates (size automaton.now) row.now.states.items }
+    ensures room { HasRoom automaton.now memory.new }
+    ensures stopped { IsTrue result ↔ IsStopped automaton.now question.now row.now byte }
+{
+    if byte != b'/' || question.ignores.is_empty() {
+        return false;
+    }
+    ends_of(automaton, &row.states, &mut memory.from, &mut memory.ends);
+    match ignoring_rule(&memory.ends, FIRST_RULE, &question.ignores) {
+        Some(_) => true,
+        None => false,
+    }
+}
+
+/// Returns the row after a byte, or `None` if no path of the domain goes on so, or only paths below an ignored folder do.
 fn next_row(
     alloc: Global,
     automaton: &Nfa,
+    question: &Question,
     row: &Row,
     byte: u8,
     memory: &mut Memory,
@@ -146,10 +201,13 @@ fn next_row(
     requires states { AreStates (size automaton.now) row.now.states.items }
     ensures room { HasRoom automaton.now memory.new }
     ensures next { IfOk result
-        (λ found. MatchOption found (place_after row.now.place byte ≡ None)
+        (λ found. MatchOption found (GoesNowhere automaton.now question.now row.now byte)
         (λ next. AreStates (size automaton.now) next.states.items
-        × GoesTo automaton.now row.now byte next)) }
+        × GoesTo automaton.now question.now row.now byte next)) }
 {
+    if is_stopped(automaton, question, row, byte, memory) {
+        return Ok(None);
+    }
     let Some(place) = row.place.after(byte) else {
         return Ok(None);
     };
@@ -168,7 +226,7 @@ fn next_row(
 fn expand(
     alloc: Global,
     automaton: &Nfa,
-    required: usize,
+    question: &Question,
     domain: Domain,
     bytes: &[u8],
     leading: &[bool],
@@ -177,21 +235,21 @@ fn expand(
     memory: &mut Memory,
 ) -> Result<(), AllocError>
     requires room { HasRoom automaton.now memory.old }
-    requires rows { AreRows automaton.now domain rows.old }
+    requires rows { AreRows automaton.now question.now domain rows.old }
     requires number { number < length rows.old.seen.keys }
     requires before { CameBefore rows.old (number + 1) }
-    requires required { 0 < required }
+    requires required { 0 < question.now.required }
     requires leading { AreLeading automaton.now 0 leading.now }
     requires bytes { AreRepresentatives automaton.now bytes.now }
     ensures room { HasRoom automaton.now memory.new }
-    ensures rows { OnOk result (AreRows automaton.now domain rows.new) }
+    ensures rows { OnOk result (AreRows automaton.now question.now domain rows.new) }
     ensures before { OnOk result (CameBefore rows.new (number + 1)) }
     ensures kept { OnOk result (KeepsRows rows.old rows.new) }
-    ensures followed { OnOk result (IsFollowed automaton.now required rows.new number) }
+    ensures followed { OnOk result (IsFollowed automaton.now question.now rows.new number) }
 {
     for byte in bytes {
         add_next(
-            alloc, automaton, required, domain, leading, rows, number, *byte, memory,
+            alloc, automaton, question, domain, leading, rows, number, *byte, memory,
         )?;
     }
     Ok(())
@@ -201,7 +259,7 @@ fn expand(
 fn add_next(
     alloc: Global,
     automaton: &Nfa,
-    required: usize,
+    question: &Question,
     domain: Domain,
     leading: &[bool],
     rows: &mut Rows,
@@ -210,20 +268,19 @@ fn add_next(
     memory: &mut Memory,
 ) -> Result<(), AllocError>
     requires room { HasRoom automaton.now memory.old }
-    requires rows { AreRows automaton.now domain rows.old }
+    requires rows { AreRows automaton.now question.now domain rows.old }
     requires number { number < length rows.old.seen.keys }
     requires before { CameBefore rows.old (number + 1) }
-    requires required { 0 < required }
+    requires required { 0 < question.now.required }
     requires leading { AreLeading automaton.now 0 leading.now }
     ensures room { HasRoom automaton.now memory.new }
-    ensures rows { OnOk result (AreRows automaton.now domain rows.new) }
+    ensures rows { OnOk result (AreRows automaton.now question.now domain rows.new) }
     ensures before { OnOk result (CameBefore rows.new (number + 1)) }
     ensures kept { OnOk result (KeepsRows rows.old rows.new) }
-    ensures followed { OnOk result (IsFollowedBy automaton.now required rows.new number byte) }
+    ensures followed { OnOk result (IsFollowedBy automaton.now question.now rows.new number byte) }
 {
     let _domain = domain;
-    let _required = required;
-    if let Some(row) = next_row(alloc, automaton, rows.row(number), byte, memory)? {
+    if let Some(row) = next_row(alloc, automaton, question, rows.row(number), byte, memory)? {
         if has_leading(leading, &row.states) {
             rows.add(row, Origin { row: number, byte })?;
         }

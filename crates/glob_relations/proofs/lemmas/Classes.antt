@@ -1,6 +1,6 @@
 -- Bytes that are read alike.
 use Rattle.std.proofs.Common.{◌≡◌, ℕ, zero, suc, ◌+◌, ◌<◌, ◌≤◌, ◌⊎◌, inl, inr, Bool, true, false, true≢false, List, [], ◌∷◌, ◌++◌, refl, ap, sym, subst, ◌∙◌, arith, ne_eqb}
-use Rattle.std.specs.Prelude.{Contains}
+use Rattle.std.specs.Prelude.{◌↔◌, Contains}
 use Rattle.std.proofs.lemmas.Bool.{cases_lt}
 use Rattle.std.proofs.lemmas.List.Elements.{Contains-append_left, Contains-append_right, Contains-push}
 use Rattle.std.proofs.Math.Logic.{⊎_elim}
@@ -9,8 +9,10 @@ use Rattle.bit_sets.specs.declared.byte_set.ByteSet.{ByteSet}
 use Rattle.byte_nfa.specs.Steps.{NfaValue}
 use Rattle.byte_nfa.proofs.lemmas.Equivalent.{accepts_equivalent}
 use Rattle.glob_relations.specs.declared.rows.Row.{Row}
+use Rattle.glob_relations.specs.declared.search.Question.{Question}
 use Rattle.glob_relations.specs.inner.Places.{kind_of, after_kind, ends_in}
-use Rattle.glob_relations.specs.inner.Rows.{AcceptsIn, AreAlike, AreBoundaries, AreRepresentatives, BeginsClass, WantsRow}
+use Rattle.glob_relations.specs.inner.Rows.{AcceptsIn, AreAlike, AreBoundaries, AreRepresentatives, BeginsClass, first_rule, WantsRow}
+use Rattle.glob_relations.proofs.lemmas.Closed.{open_alike, slash_is}
 use Rattle.glob_relations.proofs.lemmas.Passes.{wanted_iff}
 
 -- each byte is like one that begins a class
@@ -34,12 +36,14 @@ alike_sym : (m : NfaValue) (b c : ℕ) → AreAlike m b c → AreAlike m c b
 alike_sym m b c (same, kind) = (λ s. sym (same s), sym kind)
 
 -- what is wanted after a byte is wanted after one that is read alike
-pub wants_alike : (m : NfaValue) (n : ℕ) (row : Row) (b c : ℕ) (y : List ℕ) → AreAlike m b c → WantsRow m n row (c ∷ y) → WantsRow m n row (b ∷ y)
-wants_alike m n row b c y alike (ends, wanted) = (
-  ap (λ k. ends_in (after_kind row.place k) y) alike.1 ∙ ends,
-  (wanted_iff n (AcceptsIn m row.states.items (c ∷ y)) (AcceptsIn m row.states.items (b ∷ y))
-      (λ k. (accepts_alike m row.states.items c b (alike_sym m b c alike) y k, accepts_alike m row.states.items b c alike y k))).0 wanted,
-)
+pub wants_alike : (m : NfaValue) (n : Question) (row : Row) (b c : ℕ) (y : List ℕ) → AreAlike m b c → WantsRow m n row (c ∷ y) → WantsRow m n row (b ∷ y)
+wants_alike m n row b c y alike (ends, wanted, clear) =
+    let P : List ℕ → ℕ → Type 0 = AcceptsIn m row.states.items in
+    let same : (z : List ℕ) (k : ℕ) → P (b ∷ z) k ↔ P (c ∷ z) k = λ z k. (accepts_alike m row.states.items b c alike z k, accepts_alike m row.states.items c b (alike_sym m b c alike) z k) in (
+      ap (λ k. ends_in (after_kind row.place k) y) alike.1 ∙ ends,
+      (wanted_iff n.required (P (c ∷ y)) (P (b ∷ y)) (λ k. ((same y k).1, (same y k).0))).0 wanted,
+      open_alike n.ignores.items first_rule P b c y same (slash_is b c alike.1) clear,
+    )
 
 -- bytes that are alike one after another
 pub alike_next : (m : NfaValue) (set : ByteSet) → AreBoundaries m set → (b c : ℕ) → b + 1 < 256 → has_byte set b ≡ false → AreAlike m b c → AreAlike m (b + 1) c

@@ -10,17 +10,18 @@ use Rattle.ignore_pattern.specs.Compared.{SomeMatchFor, Compares}
 use Rattle.glob_relations.specs.Domains.{IsIn}
 use Rattle.glob_relations.specs.Patterns.{patterns_at, some_pattern_matches, IsPatternCovered, IsPatternMissed}
 use Rattle.glob_relations.specs.declared.domain.Domain.{Domain}
-use Rattle.glob_relations.specs.inner.Finding.{numbered, FindsEach}
+use Rattle.glob_relations.specs.inner.Compared.{numbered}
+use Rattle.glob_relations.specs.inner.Finding.{FindsEach}
 use Rattle.glob_relations.proofs.lemmas.Domains.{is_in}
 use Rattle.glob_relations.proofs.lemmas.Indexes.{contains_one}
 use Rattle.glob_relations.proofs.lemmas.Rivals.{none_match, some_at_back}
 
 -- the pattern of the index k, where the first of the list has the index n, matches the path
-abbrev MatchesFrom : Bool → ℕ → List Pattern → List ℕ → ℕ → Type 0
+abbrev pub MatchesFrom : Bool → ℕ → List Pattern → List ℕ → ℕ → Type 0
 MatchesFrom ignore_case n ps path k = (j : ℕ) × (k ≡ n + j) × ((p : Pattern) × (slice_get ps j ≡ Some p) × IsTrue (pattern_matches ignore_case p path))
 
 module _ (ignore_case : Bool) (path : List ℕ) where
-  numbered_there : (n j : ℕ) (ps : List Pattern) (p : Pattern) → slice_get ps j ≡ Some p → IsTrue (pattern_matches ignore_case p path) → SomeMatchFor ignore_case (numbered n ps) path (n + j)
+  pub numbered_there : (n j : ℕ) (ps : List Pattern) (p : Pattern) → slice_get ps j ≡ Some p → IsTrue (pattern_matches ignore_case p path) → SomeMatchFor ignore_case (numbered n ps) path (n + j)
   numbered_there n j [] p at h = absurd cc
   numbered_there n zero (q ∷ ps) p at h =
       let same : p ≡ q = cc in
@@ -30,7 +31,7 @@ module _ (ignore_case : Bool) (path : List ℕ) where
       let next : suc n + j ≡ n + suc j = omega arith in
       inr (subst (SomeMatchFor ignore_case (numbered (suc n) ps) path) next (numbered_there (suc n) j ps p at h))
 
-  numbered_back : (n k : ℕ) (ps : List Pattern) → SomeMatchFor ignore_case (numbered n ps) path k → MatchesFrom ignore_case n ps path k
+  pub numbered_back : (n k : ℕ) (ps : List Pattern) → SomeMatchFor ignore_case (numbered n ps) path k → MatchesFrom ignore_case n ps path k
   numbered_back n k [] h = absurd h
   numbered_back n k (q ∷ ps) h = ⊎_elim {C = MatchesFrom ignore_case n (q ∷ ps) path k}
       (λ (is, this). (0, omega arith, (q, refl, this)))

@@ -168,7 +168,7 @@ own_kind false = refl
 
 module _ (ignore_case : Bool) (ps : List Pattern) (i : ℕ) (p : Pattern) (domain : Domain) (others : List ℕ) (all : (k : ℕ) → Contains others k ↔ IsRival ps i p k) where
   -- the rule decides about the paths that its rivals miss
-  missed_decided : (path : List ℕ) → IsPatternMissed ignore_case p (patterns_at ps others) domain path ↔ IsDecidedAlone ignore_case ps i p domain path
+  pub missed_decided : (path : List ℕ) → IsPatternMissed ignore_case p (patterns_at ps others) domain path ↔ IsDecidedAlone ignore_case ps i p domain path
   missed_decided path = (
     λ (inside, matched, off). (
       inside,

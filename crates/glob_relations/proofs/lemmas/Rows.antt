@@ -1,6 +1,6 @@
 -- Rows that are added, and where they lead.
 use Rattle.std.proofs.Common.{◌≡◌, ℕ, zero, suc, ◌+◌, ◌<◌, ◌≤◌, ◌⊎◌, inl, inr, true≢false, List, [], ◌∷◌, ◌++◌, length, IsTrue, refl, ap, sym, subst, ◌∙◌, arith, length-append}
-use Rattle.std.specs.Prelude.{◌↔◌, None, Some, slice_get}
+use Rattle.std.specs.Prelude.{◌↔◌, Some, slice_get}
 use Rattle.std.proofs.lemmas.Bool.{cases_lt}
 use Rattle.std.proofs.Math.Logic.{⊎_elim}
 use Rattle.std.proofs.lemmas.List.{append_assoc}
@@ -12,9 +12,12 @@ use Rattle.glob_relations.specs.declared.domain.Domain.{Domain}
 use Rattle.glob_relations.specs.declared.rows.Row.{Row}
 use Rattle.glob_relations.specs.declared.rows.Rows.{Rows}
 use Rattle.glob_relations.specs.declared.rows.Origin.{Origin}
-use Rattle.glob_relations.specs.inner.Places.{place_after, first_place, ends_in}
+use Rattle.glob_relations.specs.declared.search.Question.{Question}
+use Rattle.glob_relations.specs.inner.Closed.{IsOpen}
+use Rattle.glob_relations.specs.inner.Places.{first_place, ends_in}
 use Rattle.glob_relations.specs.Shortest.{IsShortest}
-use Rattle.glob_relations.specs.inner.Rows.{AcceptsIn, IsWantedBy, WantsRow, WantsFrom, WantsNext, HasRow, HasOrigin, IsNext, IsDeep, CameBefore, IsWantedText, AreStates, IsFirstRow, GoesTo, CameFrom, AreRows, IsLedTo, AreDifferent, HasMoreRows, KeepsRows, AddsRow, IsFollowedBy, IsFollowed, AreDone}
+use Rattle.glob_relations.specs.inner.Rows.{AcceptsIn, IsWantedBy, first_rule, WantsRow, WantsFrom, WantsNext, HasRow, HasOrigin, IsNext, IsDeep, CameBefore, IsAskedText, AreStates, IsFirstRow, GoesTo, GoesNowhere, CameFrom, AreRows, IsLedTo, AreDifferent, HasMoreRows, KeepsRows, AddsRow, IsFollowedBy, IsFollowed, AreDone}
+use Rattle.glob_relations.proofs.lemmas.Closed.{open_iff, open_next, open_before}
 use Rattle.glob_relations.proofs.lemmas.Passes.{wanted_iff}
 
 module _ {X : Type 0} where
@@ -45,28 +48,36 @@ module _ {X : Type 0} where
   get_same xs i x y e f = some_is x y (sym e ∙ f)
 
 -- a row with the same place and the same states
-pub wants_same : (m : NfaValue) (n : ℕ) (r row : Row) (y : List ℕ) → r.place ≡ row.place → r.states.items ≡ row.states.items → WantsRow m n row y → WantsRow m n r y
-wants_same m n r row y place states (ends, wanted) =
-    (subst (λ p. IsTrue (ends_in (Some p) y)) (sym place) ends, subst (λ (l : List ℕ). IsWantedBy n (AcceptsIn m l y)) (sym states) wanted)
+pub wants_same : (m : NfaValue) (n : Question) (r row : Row) (y : List ℕ) → r.place ≡ row.place → r.states.items ≡ row.states.items → WantsRow m n row y → WantsRow m n r y
+wants_same m n r row y place states (ends, wanted, clear) = (
+  subst (λ p. IsTrue (ends_in (Some p) y)) (sym place) ends,
+  subst (λ (l : List ℕ). IsWantedBy n.required (AcceptsIn m l y)) (sym states) wanted,
+  subst (λ (l : List ℕ). IsOpen n.ignores.items first_rule (AcceptsIn m l) y) (sym states) clear,
+)
 
 -- what is wanted after a byte is wanted from the row that it leads to
-pub wants_goes : (m : NfaValue) (n : ℕ) (row : Row) (b : ℕ) (next : Row) (y : List ℕ) → GoesTo m row b next → WantsRow m n row (b ∷ y) ↔ WantsRow m n next y
-wants_goes m n row b next y (place, steps) =
-    let wanted = wanted_iff n (AcceptsIn m row.states.items (b ∷ y)) (AcceptsIn m next.states.items y) (steps y) in (
-      λ (ends, w). (subst (λ o. IsTrue (ends_in o y)) place ends, wanted.0 w),
-      λ (ends, w). (subst (λ o. IsTrue (ends_in o y)) (sym place) ends, wanted.1 w),
+pub wants_goes : (m : NfaValue) (n : Question) (row : Row) (b : ℕ) (next : Row) (y : List ℕ) → GoesTo m n row b next → WantsRow m n row (b ∷ y) ↔ WantsRow m n next y
+wants_goes m n row b next y (place, steps, on) =
+    let P : List ℕ → ℕ → Type 0 = AcceptsIn m row.states.items in
+    let Q : List ℕ → ℕ → Type 0 = AcceptsIn m next.states.items in
+    let wanted = wanted_iff n.required (P (b ∷ y)) (Q y) (steps y) in (
+      λ (ends, w, clear). (subst (λ o. IsTrue (ends_in o y)) place ends, wanted.0 w, open_next n.ignores.items first_rule P Q b y steps clear),
+      λ (ends, w, clear). (subst (λ o. IsTrue (ends_in o y)) (sym place) ends, wanted.1 w, open_before n.ignores.items first_rule P Q b y steps (λ is closed. on (is, closed)) clear),
     )
 
--- nothing is wanted after a byte by which no path of the domain goes on
-pub wants_past : (m : NfaValue) (n : ℕ) (row : Row) (b : ℕ) (y : List ℕ) → place_after row.place b ≡ None → WantsRow m n row (b ∷ y) → ⊥
-wants_past m n row b y none (ends, w) = true≢false (sym (subst (λ o. IsTrue (ends_in o y)) none ends))
+-- nothing is wanted after a byte that leads to no row
+pub wants_past : (m : NfaValue) (n : Question) (row : Row) (b : ℕ) (y : List ℕ) → GoesNowhere m n row b → WantsRow m n row (b ∷ y) → ⊥
+wants_past m n row b y (inl none) (ends, w, clear) = true≢false (sym (subst (λ o. IsTrue (ends_in o y)) none ends))
+wants_past m n row b y (inr (is, closed)) (ends, w, clear) = clear [] y (ap (λ (c : ℕ). c ∷ y) is) closed
 
 -- what is wanted from the row in which paths begin is wanted
-pub wants_begins : (m : NfaValue) (n : ℕ) (domain : Domain) (row : Row) (y : List ℕ) → IsFirstRow m domain row → WantsRow m n row y ↔ WantsFrom m n domain y
+pub wants_begins : (m : NfaValue) (n : Question) (domain : Domain) (row : Row) (y : List ℕ) → IsFirstRow m domain row → WantsRow m n row y ↔ WantsFrom m n domain y
 wants_begins m n domain row y (place, accepts) =
-    let wanted = wanted_iff n (AcceptsIn m row.states.items y) (IsReached m y) (accepts y) in (
-      λ (ends, w). (subst (λ p. IsTrue (ends_in (Some p) y)) place ends, wanted.0 w),
-      λ (ends, w). (subst (λ p. IsTrue (ends_in (Some p) y)) (sym place) ends, wanted.1 w),
+    let P : List ℕ → ℕ → Type 0 = AcceptsIn m row.states.items in
+    let Q : List ℕ → ℕ → Type 0 = IsReached m in
+    let wanted = wanted_iff n.required (P y) (Q y) (accepts y) in (
+      λ (ends, w, clear). (subst (λ p. IsTrue (ends_in (Some p) y)) place ends, wanted.0 w, open_iff n.ignores.items first_rule P Q y accepts clear),
+      λ (ends, w, clear). (subst (λ p. IsTrue (ends_in (Some p) y)) (sym place) ends, wanted.1 w, open_iff n.ignores.items first_rule Q P y (λ z k. ((accepts z k).1, (accepts z k).0)) clear),
     )
 
 module _ (old new : Rows) (row : Row) (origin : Origin) where
@@ -97,7 +108,7 @@ module _ (old new : Rows) (row : Row) (origin : Origin) where
       most (inr (keys, origins)) = rw (origins, nothing) (omega arith)
 
   -- what is wanted from the row is wanted from some row that is next to its origin
-  pub adds_wanted : (m : NfaValue) (n : ℕ) (y : List ℕ) → AddsRow old new row origin → length old.origins.items ≡ length old.seen.keys → CameBefore old (origin.row + 1) → WantsRow m n row y
+  pub adds_wanted : (m : NfaValue) (n : Question) (y : List ℕ) → AddsRow old new row origin → length old.origins.items ≡ length old.seen.keys → CameBefore old (origin.row + 1) → WantsRow m n row y
       → WantsNext m n new origin.row y
   adds_wanted m n y (inl (keys, origins, there)) len before wants =
       let (i, r, at, place, states) = there in
@@ -121,11 +132,11 @@ module _ (old new : Rows) (row : Row) (origin : Origin) where
     wants,
   )
 
-  module _ (m : NfaValue) (domain : Domain) where
-    came_kept : (i : ℕ) (r : Row) (o : Origin) → KeepsRows old new → CameFrom m old i r o → CameFrom m new i r o
+  module _ (m : NfaValue) (n : Question) (domain : Domain) where
+    came_kept : (i : ℕ) (r : Row) (o : Origin) → KeepsRows old new → CameFrom m n old i r o → CameFrom m n new i r o
     came_kept i r o keeps (p, low, byte, has, goes) = (p, low, byte, keeps.0 o.row p has, goes)
 
-    pub adds_sound : AddsRow old new row origin → AreStates (size m) row.states.items → CameFrom m old (length old.seen.keys) row origin → CameBefore old (origin.row + 1) → AreRows m domain old → AreRows m domain new
+    pub adds_sound : AddsRow old new row origin → AreStates (size m) row.states.items → CameFrom m n old (length old.seen.keys) row origin → CameBefore old (origin.row + 1) → AreRows m n domain old → AreRows m n domain new
     adds_sound (inl (keys, origins, there)) small from low is = record {
       some = subst (λ (ks : List Row). 0 < length ks) (sym keys) is.some;
       len = ap length origins ∙ is.len ∙ sym (ap length keys);
@@ -148,15 +159,15 @@ module _ (old new : Rows) (row : Row) (origin : Origin) where
       len = omega (arith, more, more_origins, is.len);
       below = λ i r at. ⊎_elim {C = AreStates (size m) r.states.items} (λ h. is.below i r h) (λ (e, same). subst (λ (q : Row). AreStates (size m) q.states.items) (sym same) small) (before i r at);
       begins = λ r at. ⊎_elim {C = IsFirstRow m domain r} (λ h. is.begins r h) (λ (e, same). let some = is.some in absurd (omega arith)) (before 0 r at);
-      came = λ i r o pos at came. ⊎_elim {C = CameFrom m new i r o}
-          (λ h. ⊎_elim {C = CameFrom m new i r o}
+      came = λ i r o pos at came. ⊎_elim {C = CameFrom m n new i r o}
+          (λ h. ⊎_elim {C = CameFrom m n new i r o}
           (λ g. came_kept i r o keeps (is.came i r o pos h g))
           (λ (e, same). let lt = slice_get_within old.seen.keys i r h in let len = is.len in absurd (omega arith))
           (came_before i o came))
-          (λ (e, same). ⊎_elim {C = CameFrom m new i r o}
+          (λ (e, same). ⊎_elim {C = CameFrom m n new i r o}
           (λ g. let lt = slice_get_within old.origins.items i o g in let len = is.len in absurd (omega arith))
-          (λ (e', same'). subst (λ (j : ℕ). CameFrom m new j r o) (sym e) (subst (λ (q : Row). CameFrom m new (length old.seen.keys) q o) (sym same)
-          (subst (λ (q : Origin). CameFrom m new (length old.seen.keys) row q) (sym same') (came_kept (length old.seen.keys) row origin keeps from))))
+          (λ (e', same'). subst (λ (j : ℕ). CameFrom m n new j r o) (sym e) (subst (λ (q : Row). CameFrom m n new (length old.seen.keys) q o) (sym same)
+          (subst (λ (q : Origin). CameFrom m n new (length old.seen.keys) row q) (sym same') (came_kept (length old.seen.keys) row origin keeps from))))
           (came_before i o came))
           (before i r at);
       order = λ i j o p pos le at there. ⊎_elim {C = o.row ≤ p.row}
@@ -187,7 +198,7 @@ module _ (old new : Rows) (row : Row) (origin : Origin) where
         came_before i o at = get_cases old.origins.items origin i o (subst (λ (os : List Origin). slice_get os i ≡ Some o) origins at)
 
     -- the first row
-    pub first_sound : AddsRow old new row origin → old.seen.keys ≡ [] → old.origins.items ≡ [] → AreStates (size m) row.states.items → IsFirstRow m domain row → AreRows m domain new
+    pub first_sound : AddsRow old new row origin → old.seen.keys ≡ [] → old.origins.items ≡ [] → AreStates (size m) row.states.items → IsFirstRow m domain row → AreRows m n domain new
     first_sound (inl (keys, origins, there)) none nothing small begins =
         let (i, r, at, place, states) = there in
         absurd (no_row i r (subst (λ (ks : List Row). slice_get ks i ≡ Some r) none at))
@@ -221,7 +232,7 @@ row_back old new keeps i r lt at =
     let (q, was) = get_some old.seen.keys i lt in
     subst (λ (x : Row). slice_get old.seen.keys i ≡ Some x) (get_same new.seen.keys i q r (keeps.0 i q was) at) was
 
-module _ (m : NfaValue) (n : ℕ) where
+module _ (m : NfaValue) (n : Question) where
   next_kept : (old new : Rows) (i j : ℕ) → KeepsRows old new → IsNext old i j → IsNext new i j
   next_kept old new i j keeps (inl first) = inl first
   next_kept old new i j keeps (inr (o, at, le)) = inr (o, keeps.1 j o at, le)
@@ -256,7 +267,7 @@ module _ (m : NfaValue) (n : ℕ) where
       let (j, r, has, next', w) = (done i (omega arith)).0 b byte row at y wants in
       none_wanted rows next done le y bytes j r has w
 
-  pub nothing_wanted : (domain : Domain) (rows : Rows) (next : ℕ) → AreRows m domain rows → AreDone m n rows next → length rows.seen.keys ≤ next → (y : List ℕ) → IsWantedText m n domain y → ⊥
+  pub nothing_wanted : (domain : Domain) (rows : Rows) (next : ℕ) → AreRows m n domain rows → AreDone m n rows next → length rows.seen.keys ≤ next → (y : List ℕ) → IsAskedText m n domain y → ⊥
   nothing_wanted domain rows next is done le y (bytes, wants) =
       let (row, at) = get_some rows.seen.keys 0 is.some in
       none_wanted rows next done le y bytes 0 row at ((wants_begins m n domain row y (is.begins row at)).1 wants)
@@ -272,7 +283,7 @@ first_deep rows i zero first deep = refl
 first_deep rows i (suc d) first (pos, deep) = absurd (omega arith)
 
 -- Rows are in the order of their depths.
-module _ (m : NfaValue) (domain : Domain) (rows : Rows) (is : AreRows m domain rows) where
+module _ (m : NfaValue) (n : Question) (domain : Domain) (rows : Rows) (is : AreRows m n domain rows) where
   deep_order : (d e i j : ℕ) → IsDeep rows d i → IsDeep rows e j → i ≤ j → d ≤ e
   deep_order zero e i j deep deep' le = omega arith
   deep_order (suc d) zero i j (pos, deep) deep' le = absurd (omega arith)
@@ -306,36 +317,36 @@ module _ (m : NfaValue) (domain : Domain) (rows : Rows) (is : AreRows m domain r
       (suc e, (omega arith, (o, at, below)), omega arith)
 
   -- where the rows before one are done, a text that is wanted is no shorter than the one is deep
-  wanted_long : (n next d : ℕ) → AreDone m n rows next → IsDeep rows d next → (y : List ℕ) → AllBytes y → (i e : ℕ) (row : Row) → HasRow rows i row → IsDeep rows e i → WantsRow m n row y → d ≤ e + length y
-  wanted_long n next d done deep [] bytes i e row at deep' wants = ⊎_elim {C = d ≤ e + 0}
+  wanted_long : (next d : ℕ) → AreDone m n rows next → IsDeep rows d next → (y : List ℕ) → AllBytes y → (i e : ℕ) (row : Row) → HasRow rows i row → IsDeep rows e i → WantsRow m n row y → d ≤ e + length y
+  wanted_long next d done deep [] bytes i e row at deep' wants = ⊎_elim {C = d ≤ e + 0}
       (λ low. absurd ((done i low).1 row at wants))
       (λ high. let le = deep_order d e next i deep deep' high in omega arith)
       (cases_lt i next)
-  wanted_long n next d done deep (b ∷ y) (byte, bytes) i e row at deep' wants = ⊎_elim {C = d ≤ e + length (b ∷ y)}
+  wanted_long next d done deep (b ∷ y) (byte, bytes) i e row at deep' wants = ⊎_elim {C = d ≤ e + length (b ∷ y)}
       (λ low.
       let (j, r, has, near, w) = (done i low).0 b byte row at y wants in
       let (f, deeper, le) = next_deep e i j (slice_get_within rows.seen.keys i row at) deep' near in
-      let least = wanted_long n next d done deep y bytes j f r has deeper w in
+      let least = wanted_long next d done deep y bytes j f r has deeper w in
       omega arith)
       (λ high. let le = deep_order d e next i deep deep' high in omega arith)
       (cases_lt i next)
 
   -- a path to the row is a shortest one
-  pub found_shortest : (n next : ℕ) (row : Row) (path : List ℕ) → AreDone m n rows next → HasRow rows next row → IsWantedText m n domain path → ((d : ℕ) → IsDeep rows d next → length path ≡ d)
-      → IsShortest (IsWantedText m n domain) path
-  found_shortest n next row path done at wanted long = (
+  pub found_shortest : (next : ℕ) (row : Row) (path : List ℕ) → AreDone m n rows next → HasRow rows next row → IsAskedText m n domain path → ((d : ℕ) → IsDeep rows d next → length path ≡ d)
+      → IsShortest (IsAskedText m n domain) path
+  found_shortest next row path done at wanted long = (
     wanted,
     λ y (bytes, wants).
         let (d, deep) = depth_of next (slice_get_within rows.seen.keys next row at) in
         let (first, begins) = get_some rows.seen.keys 0 is.some in
-        let least = wanted_long n next d done deep y bytes 0 0 first begins refl ((wants_begins m n domain first y (is.begins first begins)).1 wants) in
+        let least = wanted_long next d done deep y bytes 0 0 first begins refl ((wants_begins m n domain first y (is.begins first begins)).1 wants) in
         let same = long d deep in
         omega arith,
   )
 
 -- where rows came from
-pub origin_low : (m : NfaValue) (domain : Domain) (rows : Rows) → AreRows m domain rows → (i : ℕ) (origin : Origin) → 0 < i → slice_get rows.origins.items i ≡ Some origin → (origin.row < i) × (origin.byte < 256)
-origin_low m domain rows is i origin pos from =
+pub origin_low : (m : NfaValue) (n : Question) (domain : Domain) (rows : Rows) → AreRows m n domain rows → (i : ℕ) (origin : Origin) → 0 < i → slice_get rows.origins.items i ≡ Some origin → (origin.row < i) × (origin.byte < 256)
+origin_low m n domain rows is i origin pos from =
     let lt = slice_get_within rows.origins.items i origin from in
     let len = is.len in
     let (row, at) = get_some rows.seen.keys i (omega arith) in
@@ -347,17 +358,17 @@ all_push [] b all lt = (lt, tt)
 all_push (x ∷ xs) b (first, rest) lt = (first, all_push xs b rest lt)
 
 -- some path leads to each row
-led_to : (m : NfaValue) (domain : Domain) (rows : Rows) → AreRows m domain rows → (bound i : ℕ) → i < bound → (row : Row) → HasRow rows i row → IsLedTo m domain row
-led_to m domain rows is zero i lt row at = absurd (omega arith)
-led_to m domain rows is (suc bound) zero lt row at =
+led_to : (m : NfaValue) (n : Question) (domain : Domain) (rows : Rows) → AreRows m n domain rows → (bound i : ℕ) → i < bound → (row : Row) → HasRow rows i row → IsLedTo m domain row
+led_to m n domain rows is zero i lt row at = absurd (omega arith)
+led_to m n domain rows is (suc bound) zero lt row at =
     let (place, accepts) = is.begins row at in
     ([], tt, λ z. ap (λ p. ends_in (Some p) z) place, accepts)
-led_to m domain rows is (suc bound) (suc i) lt row at =
+led_to m n domain rows is (suc bound) (suc i) lt row at =
     let within = slice_get_within rows.seen.keys (suc i) row at in
     let len = is.len in
     let (o, from) = get_some rows.origins.items (suc i) (omega arith) in
     let (p, low, byte, has, goes) = is.came (suc i) row o (omega arith) at from in
-    let (y, bytes, ends, accepts) = led_to m domain rows is bound o.row (omega arith) p has in (
+    let (y, bytes, ends, accepts) = led_to m n domain rows is bound o.row (omega arith) p has in (
       y ++ o.byte ∷ [],
       all_push y o.byte bytes byte,
       λ z. sym (ap (λ q. ends_in q z) goes.0) ∙ ends (o.byte ∷ z) ∙ sym (ap (ends_in (Some (first_place domain))) (append_assoc y (o.byte ∷ []) z)),
@@ -365,10 +376,10 @@ led_to m domain rows is (suc bound) (suc i) lt row at =
           (λ h. (accepts (o.byte ∷ z) k).0 ((goes.1 z k).1 h), λ h. (goes.1 z k).0 ((accepts (o.byte ∷ z) k).1 h)),
     )
 
-pub more_rows : (m : NfaValue) (domain : Domain) (rows : Rows) (limit : ℕ) → AreRows m domain rows → limit < length rows.seen.keys → AreDifferent rows.seen.keys → HasMoreRows m domain limit
-more_rows m domain rows limit is more different = (
+pub more_rows : (m : NfaValue) (n : Question) (domain : Domain) (rows : Rows) (limit : ℕ) → AreRows m n domain rows → limit < length rows.seen.keys → AreDifferent rows.seen.keys → HasMoreRows m domain limit
+more_rows m n domain rows limit is more different = (
   rows.seen.keys,
   more,
   different,
-  λ i row at. (is.below i row at, led_to m domain rows is (i + 1) i (omega arith) row at),
+  λ i row at. (is.below i row at, led_to m n domain rows is (i + 1) i (omega arith) row at),
 )

@@ -11,6 +11,7 @@ use Rattle.byte_nfa.specs.Runs.{size, AcceptsFrom}
 use Rattle.byte_nfa.specs.Steps.{NfaValue, IsReached}
 use Rattle.byte_nfa.proofs.lemmas.Pass.{iff_trans}
 use Rattle.glob_relations.specs.declared.rows.Rows.{Rows}
+use Rattle.glob_relations.specs.declared.search.Question.{Question}
 use Rattle.glob_relations.specs.inner.Rows.{AcceptsIn, AreAlike, AreRepresentatives, IsFollowed, IsFollowedBy, KeepsRows}
 use Rattle.glob_relations.proofs.lemmas.Classes.{wants_alike}
 use Rattle.glob_relations.proofs.lemmas.Passes.{accepts_listed}
@@ -33,7 +34,7 @@ kept_within old new i keeps lt =
     let (row, at) = get_some old.seen.keys i lt in
     slice_get_within new.seen.keys i row (keeps.0 i row at)
 
-module _ (m : NfaValue) (n number : ℕ) (bytes : List ℕ) where
+module _ (m : NfaValue) (n : Question) (number : ℕ) (bytes : List ℕ) where
   -- one byte more of a list
   pub followed_more : (old new : Rows) (i : ℕ) → KeepsRows old new → number < length old.seen.keys → ((j : ℕ) → j < i → IsFollowedBy m n old number (slice_index bytes j))
       → IsFollowedBy m n new number (slice_index bytes i) → (j : ℕ) → j < i + 1 → IsFollowedBy m n new number (slice_index bytes j)

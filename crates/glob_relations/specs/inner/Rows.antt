@@ -1,5 +1,5 @@
 -- Rows: a place, and a set of states as a list.
-use Rattle.std.specs.Prelude.{◌≡◌, ℕ, zero, suc, ◌+◌, ◌<◌, ◌≤◌, ◌⊎◌, ◌↔◌, List, [], ◌∷◌, ◌++◌, length, Contains, slice_get, slice_index, Some, IsTrue}
+use Rattle.std.specs.Prelude.{◌≡◌, ℕ, zero, suc, ◌+◌, ◌<◌, ◌≤◌, ◌⊎◌, ◌↔◌, List, [], ◌∷◌, ◌++◌, length, Contains, slice_get, slice_index, Some, None, IsTrue}
 use Rattle.bit_sets.specs.Bytes.{has_byte}
 use Rattle.bit_sets.specs.declared.byte_set.ByteSet.{ByteSet}
 use Rattle.bit_sets.specs.Numbers.{has_number, AreBelow}
@@ -11,9 +11,11 @@ use Rattle.glob_relations.specs.declared.domain.Domain.{Domain}
 use Rattle.glob_relations.specs.declared.rows.Row.{Row}
 use Rattle.glob_relations.specs.declared.rows.Rows.{Rows}
 use Rattle.glob_relations.specs.declared.rows.Origin.{Origin}
+use Rattle.glob_relations.specs.declared.search.Question.{Question}
 use Rattle.glob_relations.specs.declared.search.Answer.{Answer}
 use Rattle.glob_relations.specs.declared.search.Answer.TheVariants.{Found, Nothing, Limit}
 use Rattle.glob_relations.specs.Shortest.{IsShortest}
+use Rattle.glob_relations.specs.inner.Closed.{IsClosed, IsOpen}
 use Rattle.glob_relations.specs.inner.Places.{kind_of, place_after, first_place, ends_in}
 
 -- each of the first n indexes is reached, and the next is not
@@ -28,13 +30,21 @@ AcceptsIn m list y k = (t : ℕ) × IsTrue (has_number t list) × Accepts m.stat
 abbrev pub AreStates : ℕ → List ℕ → Type 0
 AreStates n list = AreBelow n list × ((i : ℕ) → i + 1 < length list → slice_index list (i + 1) < slice_index list i)
 
--- from the row the text leads to a wanted end
-abbrev pub WantsRow : NfaValue → ℕ → Row → List ℕ → Type 0
-WantsRow m n row y = IsTrue (ends_in (Some row.place) y) × IsWantedBy n (AcceptsIn m row.states.items y)
+-- the index of the first rule of a question
+abbrev pub first_rule : ℕ
+first_rule = 2
 
--- from the start the text leads to a wanted end
-abbrev pub WantsFrom : NfaValue → ℕ → Domain → List ℕ → Type 0
-WantsFrom m n domain y = IsTrue (ends_in (Some (first_place domain)) y) × IsWantedBy n (IsReached m y)
+-- from the row the text leads to a wanted end, and not below an ignored folder
+abbrev pub WantsRow : NfaValue → Question → Row → List ℕ → Type 0
+WantsRow m n row y = IsTrue (ends_in (Some row.place) y) × IsWantedBy n.required (AcceptsIn m row.states.items y) × IsOpen n.ignores.items first_rule (AcceptsIn m row.states.items) y
+
+-- from the start the text leads to a wanted end, and not below an ignored folder
+abbrev pub WantsFrom : NfaValue → Question → Domain → List ℕ → Type 0
+WantsFrom m n domain y = IsTrue (ends_in (Some (first_place domain)) y) × IsWantedBy n.required (IsReached m y) × IsOpen n.ignores.items first_rule (IsReached m) y
+
+-- the byte is a `/`, and the row is that of an ignored folder
+abbrev pub IsStopped : NfaValue → Question → Row → ℕ → Type 0
+IsStopped m n row b = (b ≡ 47) × IsClosed n.ignores.items first_rule (AcceptsIn m row.states.items [])
 
 -- the row has the number i
 abbrev pub HasRow : Rows → ℕ → Row → Type 0
@@ -49,7 +59,7 @@ abbrev pub IsNext : Rows → ℕ → ℕ → Type 0
 IsNext rows i j = (j ≡ 0) ⊎ ((origin : Origin) × HasOrigin rows j origin × (origin.row ≤ i))
 
 -- the text leads to a wanted end from some row j for which `IsNext` holds
-abbrev pub WantsNext : NfaValue → ℕ → Rows → ℕ → List ℕ → Type 0
+abbrev pub WantsNext : NfaValue → Question → Rows → ℕ → List ℕ → Type 0
 WantsNext m n rows i y = (j : ℕ) × (r : Row) × HasRow rows j r × IsNext rows i j × WantsRow m n r y
 
 -- `depth` bytes led from the first row to the row of the number i
@@ -66,20 +76,24 @@ abbrev pub IsFirstRow : NfaValue → Domain → Row → Type 0
 IsFirstRow m domain row = (row.place ≡ first_place domain) × ((y : List ℕ) (k : ℕ) → AcceptsIn m row.states.items y k ↔ IsReached m y k)
 
 -- the byte leads from the row to the next
-abbrev pub GoesTo : NfaValue → Row → ℕ → Row → Type 0
-GoesTo m row b next = (place_after row.place b ≡ Some next.place) × ((y : List ℕ) (k : ℕ) → AcceptsIn m row.states.items (b ∷ y) k ↔ AcceptsIn m next.states.items y k)
+abbrev pub GoesTo : NfaValue → Question → Row → ℕ → Row → Type 0
+GoesTo m n row b next = (place_after row.place b ≡ Some next.place) × ((y : List ℕ) (k : ℕ) → AcceptsIn m row.states.items (b ∷ y) k ↔ AcceptsIn m next.states.items y k) × (IsStopped m n row b → ⊥)
+
+-- the byte leads to no row
+abbrev pub GoesNowhere : NfaValue → Question → Row → ℕ → Type 0
+GoesNowhere m n row b = (place_after row.place b ≡ None) ⊎ IsStopped m n row b
 
 -- the row came from a lower row by a byte
-abbrev pub CameFrom : NfaValue → Rows → ℕ → Row → Origin → Type 0
-CameFrom m rows i row origin = (p : Row) × (origin.row < i) × (origin.byte < 256) × HasRow rows origin.row p × GoesTo m p origin.byte row
+abbrev pub CameFrom : NfaValue → Question → Rows → ℕ → Row → Origin → Type 0
+CameFrom m n rows i row origin = (p : Row) × (origin.row < i) × (origin.byte < 256) × HasRow rows origin.row p × GoesTo m n p origin.byte row
 
 -- the invariant of the rows so far
-pub record AreRows (m : NfaValue) (domain : Domain) (rows : Rows) : Type 0 where
+pub record AreRows (m : NfaValue) (n : Question) (domain : Domain) (rows : Rows) : Type 0 where
   pub some : 0 < length rows.seen.keys
   pub len : length rows.origins.items ≡ length rows.seen.keys
   pub below : (i : ℕ) (row : Row) → HasRow rows i row → AreStates (size m) row.states.items
   pub begins : (row : Row) → HasRow rows 0 row → IsFirstRow m domain row
-  pub came : (i : ℕ) (row : Row) (origin : Origin) → 0 < i → HasRow rows i row → HasOrigin rows i origin → CameFrom m rows i row origin
+  pub came : (i : ℕ) (row : Row) (origin : Origin) → 0 < i → HasRow rows i row → HasOrigin rows i origin → CameFrom m n rows i row origin
   pub order : (i j : ℕ) (o p : Origin) → 0 < i → i ≤ j → HasOrigin rows i o → HasOrigin rows j p → o.row ≤ p.row
 
 -- some path leads to the row: what follows it decides from the row as it does after the path
@@ -107,15 +121,15 @@ AddsRow old new row origin =
     ⊎ ((new.seen.keys ≡ old.seen.keys ++ row ∷ []) × (new.origins.items ≡ old.origins.items ++ origin ∷ []))
 
 -- each text that leads to a wanted end from the row of the number i after the byte does so from some row that `IsNext` allows
-abbrev pub IsFollowedBy : NfaValue → ℕ → Rows → ℕ → ℕ → Type 0
+abbrev pub IsFollowedBy : NfaValue → Question → Rows → ℕ → ℕ → Type 0
 IsFollowedBy m n rows i b = (row : Row) → HasRow rows i row → (y : List ℕ) → WantsRow m n row (b ∷ y) → WantsNext m n rows i y
 
 -- the same of each byte
-abbrev pub IsFollowed : NfaValue → ℕ → Rows → ℕ → Type 0
+abbrev pub IsFollowed : NfaValue → Question → Rows → ℕ → Type 0
 IsFollowed m n rows i = (b : ℕ) → b < 256 → IsFollowedBy m n rows i b
 
 -- the rows below a number are not wanted themselves, and followed
-abbrev pub AreDone : NfaValue → ℕ → Rows → ℕ → Type 0
+abbrev pub AreDone : NfaValue → Question → Rows → ℕ → Type 0
 AreDone m n rows next = (i : ℕ) → i < next → IsFollowed m n rows i × ((row : Row) → HasRow rows i row → WantsRow m n row [] → ⊥)
 
 -- bytes that states read alike, and paths of domains
@@ -134,12 +148,26 @@ AreBoundaries m set = (b : ℕ) → b + 1 < 256 → (IsTrue (has_byte set b) →
 abbrev pub AreRepresentatives : NfaValue → List ℕ → Type 0
 AreRepresentatives m bytes = (c : ℕ) → c < 256 → (b : ℕ) × Contains bytes b × AreAlike m b c
 
--- the text consists of bytes, and leads from the start to a wanted end
-abbrev pub IsWantedText : NfaValue → ℕ → Domain → List ℕ → Type 0
-IsWantedText m n domain y = AllBytes y × WantsFrom m n domain y
+-- the text consists of bytes, and leads from the start to a wanted end, and not below an ignored folder
+abbrev pub IsAskedText : NfaValue → Question → Domain → List ℕ → Type 0
+IsAskedText m n domain y = AllBytes y × WantsFrom m n domain y
 
--- the answer of a search: a shortest wanted text, or that there is none, or that there are more rows than the limit
+-- the same, where no folder is ignored
+abbrev pub LeadsFrom : NfaValue → ℕ → Domain → List ℕ → Type 0
+LeadsFrom m required domain y = IsTrue (ends_in (Some (first_place domain)) y) × IsWantedBy required (IsReached m y)
+
+abbrev pub IsWantedText : NfaValue → ℕ → Domain → List ℕ → Type 0
+IsWantedText m required domain y = AllBytes y × LeadsFrom m required domain y
+
+-- the answer of a search for texts that have a property: a shortest one, or that there is none, or that there are more rows than
+-- the limit
+abbrev pub TellsText : (List ℕ → Type 0) → NfaValue → Domain → ℕ → Answer → Type 0
+TellsText P m domain limit (Found path) = IsShortest P path.items
+TellsText P m domain limit Nothing = (y : List ℕ) → P y → ⊥
+TellsText P m domain limit Limit = HasMoreRows m domain limit
+
+abbrev pub TellsAsked : NfaValue → Question → Domain → ℕ → Answer → Type 0
+TellsAsked m n domain limit answer = TellsText (IsAskedText m n domain) m domain limit answer
+
 abbrev pub TellsSearch : NfaValue → ℕ → Domain → ℕ → Answer → Type 0
-TellsSearch m n domain limit (Found path) = IsShortest (IsWantedText m n domain) path.items
-TellsSearch m n domain limit Nothing = (y : List ℕ) → IsWantedText m n domain y → ⊥
-TellsSearch m n domain limit Limit = HasMoreRows m domain limit
+TellsSearch m required domain limit answer = TellsText (IsWantedText m required domain) m domain limit answer

@@ -11,13 +11,13 @@ pub loop-i-preserved : goal.loop-i-preserved
 loop-i-preserved c =
     let ps : List Pattern = c.args.patterns.now in
     let all : List RuleReachability = c.loop-i.all.items in
-    let x : RuleReachability = c.in_ok-rule_reachability.field-0 in
+    let x : RuleReachability = c.in_ok-told.told in
     let inv = c.loop-i.invariant in
     record {
       len = omega (arith, inv.len, ap length c.in_ok-push.ensures.items, length-append all (x ∷ []));
       each = λ i p told at there. ⊎_elim {C = TellsRule c.args.ignore_case ps i p c.args.domain c.args.limit told}
           (λ old. inv.each i p told at old)
           (λ (e, same). subst (λ (j : ℕ). slice_get ps j ≡ Some p → TellsRule c.args.ignore_case ps j p c.args.domain c.args.limit told) (sym (e ∙ inv.len))
-          (λ here. subst (λ (t : RuleReachability). TellsRule c.args.ignore_case ps c.loop-i.i p c.args.domain c.args.limit t) (sym same) (c.in_ok-rule_reachability.ensures p here)) at)
+          (λ here. subst (λ (t : RuleReachability). TellsRule c.args.ignore_case ps c.loop-i.i p c.args.domain c.args.limit t) (sym same) (c.in_ok-told.ensures p here)) at)
           (get_cases all x i told (subst (λ (l : List RuleReachability). slice_get l i ≡ Some told) c.in_ok-push.ensures.items there));
     }

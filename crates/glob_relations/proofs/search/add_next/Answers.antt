@@ -10,7 +10,7 @@ pub returns-in_ok-add-clause-rows : goal.returns-in_ok-add-clause-rows
 returns-in_ok-add-clause-rows c =
     let origin : Origin = record { row = c.args.number; byte = c.args.byte } in
     let next = rw c.in-Some.is at c.in_ok-row.ensures.next in
-    adds_sound c.args.rows.now c.add.new.self c.in-Some.row origin c.args.automaton.now c.args.domain c.in_ok-add.ensures next.0
+    adds_sound c.args.rows.now c.add.new.self c.in-Some.row origin c.args.automaton.now c.args.question.now c.args.domain c.in_ok-add.ensures next.0
     (c.row.result.now, c.requires.number, omega arith, c.row.ensures, next.1) c.requires.before c.requires.rows
 
 pub returns-in_ok-add-clause-before : goal.returns-in_ok-add-clause-before
@@ -26,7 +26,7 @@ returns-in_ok-add-clause-kept c =
 pub returns-in_ok-add-clause-followed : goal.returns-in_ok-add-clause-followed
 returns-in_ok-add-clause-followed c = λ row at y wants.
     let m = c.args.automaton.now in
-    let n = c.args.required in
+    let n = c.args.question.now in
     let old = c.args.rows.now in
     let new = c.add.new.self in
     let origin : Origin = record { row = c.args.number; byte = c.args.byte } in
@@ -38,7 +38,7 @@ returns-in_ok-add-clause-followed c = λ row at y wants.
 pub returns-else-has_leading-clause-followed : goal.returns-else-has_leading-clause-followed
 returns-else-has_leading-clause-followed c = λ row at y wants.
     let m = c.args.automaton.now in
-    let n = c.args.required in
+    let n = c.args.question.now in
     let next = rw c.in-Some.is at c.in_ok-row.ensures.next in
     let same = get_same c.args.rows.now.seen.keys c.args.number row c.row.result.now at c.row.ensures in
     let after = (wants_goes m n c.row.result.now c.args.byte c.in-Some.row y next.1).0 (subst (λ (r : Row). WantsRow m n r (c.args.byte ∷ y)) same wants) in
@@ -48,7 +48,7 @@ returns-else-has_leading-clause-followed c = λ row at y wants.
 pub returns-in_default-clause-followed : goal.returns-in_default-clause-followed
 returns-in_default-clause-followed c = λ row at y wants.
     let m = c.args.automaton.now in
-    let n = c.args.required in
+    let n = c.args.question.now in
     let none = rw c.in_default.is at c.in_ok-row.ensures.next in
     let same = get_same c.args.rows.now.seen.keys c.args.number row c.row.result.now at c.row.ensures in
     absurd (wants_past m n c.row.result.now c.args.byte y none (subst (λ (r : Row). WantsRow m n r (c.args.byte ∷ y)) same wants))

@@ -12,8 +12,8 @@ loop-byte-preserved c =
       before = did.before;
       kept = (λ i row at. did.kept.0 i row (inv.kept.0 i row at), λ i origin at. did.kept.1 i origin (inv.kept.1 i origin at));
       number = kept_within c.loop-byte.rows c.add_next.new.rows c.args.number did.kept inv.number;
-      followed = followed_more c.args.automaton.now c.args.required c.args.number c.args.bytes.now c.loop-byte.rows c.add_next.new.rows c.loop-byte.byte-index did.kept inv.number inv.followed did.followed;
+      followed = followed_more c.args.automaton.now c.args.question.now c.args.number c.args.bytes.now c.loop-byte.rows c.add_next.new.rows c.loop-byte.byte-index did.kept inv.number inv.followed did.followed;
     }
 
 pub returns-clause-followed : goal.returns-clause-followed
-returns-clause-followed c = followed_all c.args.automaton.now c.args.required c.args.number c.args.bytes.now c.loop-byte.rows c.loop-byte.byte-index (omega arith) c.requires.bytes c.loop-byte.invariant.followed
+returns-clause-followed c = followed_all c.args.automaton.now c.args.question.now c.args.number c.args.bytes.now c.loop-byte.rows c.loop-byte.byte-index (omega arith) c.requires.bytes c.loop-byte.invariant.followed

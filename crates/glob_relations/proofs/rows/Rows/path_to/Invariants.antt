@@ -4,6 +4,7 @@ use Rattle.bit_sets.specs.Texts.{AllBytes}
 use Rattle.byte_nfa.specs.Steps.{NfaValue}
 use Rattle.glob_relations.specs.declared.domain.Domain.{Domain}
 use Rattle.glob_relations.specs.declared.rows.Row.{Row}
+use Rattle.glob_relations.specs.declared.search.Question.{Question}
 use Rattle.glob_relations.specs.inner.Rows.{AreRows, HasRow, IsDeep, WantsRow}
 use Rattle.glob_relations.proofs.rows.Rows.path_to.Given as goal
 
@@ -12,7 +13,7 @@ invariant-loop-at l = record {
   within : l.at < length l.self.seen.keys;
   bytes : AllBytes (reverse l.path.items);
   deep : (depth : ℕ) → IsDeep l.self depth l.number → (d : ℕ) × IsDeep l.self d l.at × (d + length l.path.items ≡ depth);
-  leads : (m : NfaValue) (n : ℕ) (domain : Domain) (row : Row) → AreRows m domain l.self → HasRow l.self l.number row → WantsRow m n row []
+  leads : (m : NfaValue) (n : Question) (domain : Domain) (row : Row) → AreRows m n domain l.self → HasRow l.self l.number row → WantsRow m n row []
       → (p : Row) × HasRow l.self l.at p × WantsRow m n p (reverse l.path.items);
 }
 

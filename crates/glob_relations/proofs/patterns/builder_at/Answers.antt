@@ -7,7 +7,7 @@ use Rattle.ignore_pattern.specs.Compared.{IndexedPattern, indexed, Compares}
 use Rattle.glob_relations.specs.Patterns.{with_pattern, patterns_at}
 use Rattle.glob_relations.specs.inner.Compared.{indexed_all}
 use Rattle.glob_relations.proofs.lemmas.Indexes.{contains_index}
-use Rattle.glob_relations.proofs.patterns.automaton_at.Goals as goal
+use Rattle.glob_relations.proofs.patterns.builder_at.Goals as goal
 
 pub loop-k-init : goal.loop-k-init
 loop-k-init c = record {
@@ -17,11 +17,11 @@ loop-k-init c = record {
 
 pub offset_bounds-patterns-k : goal.offset_bounds-patterns-k
 offset_bounds-patterns-k c =
-    let lt : slice_index c.args.by.now c.loop-k.k-index < length c.args.patterns.now = c.requires (slice_index c.args.by.now c.loop-k.k-index) (contains_index c.args.by.now c.loop-k.k-index c.loop-k-test.true) in
+    let lt : slice_index c.args.by.now c.loop-k.k-index < length c.args.patterns.now = c.requires.within (slice_index c.args.by.now c.loop-k.k-index) (contains_index c.args.by.now c.loop-k.k-index c.loop-k-test.true) in
     search rules
 
 pub bounds-patterns-k : goal.bounds-patterns-k
-bounds-patterns-k c = c.requires (slice_index c.args.by.now c.loop-k.k-index) (contains_index c.args.by.now c.loop-k.k-index c.loop-k-test.true)
+bounds-patterns-k c = c.requires.within (slice_index c.args.by.now c.loop-k.k-index) (contains_index c.args.by.now c.loop-k.k-index c.loop-k-test.true)
 
 pub loop-k-preserved : goal.loop-k-preserved
 loop-k-preserved c =
@@ -31,7 +31,7 @@ loop-k-preserved c =
     let by : List ℕ = c.args.by.now in
     let k : ℕ = slice_index by i in
     let p : Pattern = c.index-patterns-k.result in
-    let lt : k < length ps = c.requires k (contains_index by i c.loop-k-test.true) in
+    let lt : k < length ps = c.requires.within k (contains_index by i c.loop-k-test.true) in
     let has : slice_get ps k ≡ Some p = slice_get_read ps (length ps) k p refl lt c.index-patterns-k.is in
     let more : drop i by ≡ k ∷ drop (i + 1) by = drop_more by i 0 c.loop-k-test.true in
     let patterns : patterns_at ps (drop i by) ≡ p ∷ patterns_at ps (drop (i + 1) by) = ap (patterns_at ps) more ∙ ap (λ o. with_pattern o (patterns_at ps (drop (i + 1) by))) has in
@@ -44,11 +44,11 @@ loop-k-preserved c =
       );
     }
 
-pub returns : goal.returns
-returns c =
+pub returns-clause-compares : goal.returns-clause-compares
+returns-clause-compares c =
     let (xs, is, same) = c.loop-k.invariant.compares in
     let ps : List Pattern = c.args.patterns.now in
     let wanted = indexed 0 c.args.pattern.now ∷ indexed_all 1 (patterns_at ps c.args.by.now) in
     let past : drop c.loop-k.k-index c.args.by.now ≡ [] = drop_all c.loop-k.k-index c.args.by.now (omega arith) in
     let whole : xs ≡ wanted = sym (append-nil xs) ∙ sym (ap (λ (l : List ℕ). xs ++ indexed_all 1 (patterns_at ps l)) past) ∙ same in
-    subst (Compares c.args.ignore_case wanted) (sym c.finish.ensures) (subst (λ (l : List IndexedPattern). Compares c.args.ignore_case l c.loop-k.builder) whole is)
+    subst (λ (l : List IndexedPattern). Compares c.args.ignore_case l c.loop-k.builder) whole is
