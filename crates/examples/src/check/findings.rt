@@ -192,7 +192,7 @@ impl fmt::Display for Covering<'_> {
     }
 }
 
-/// Returns the numbers of the lines of the rules with these indexes.
+/// Returns the numbers of the lines of the rules with these indexes, in ascending order.
 fn lines(alloc: Global, rules: &Rules<'_>, indexes: &[usize]) -> Result<Vec<usize>, AllocError> {
     let mut lines = Vec::new(alloc);
     for index in indexes {
@@ -200,10 +200,11 @@ fn lines(alloc: Global, rules: &Rules<'_>, indexes: &[usize]) -> Result<Vec<usiz
             lines.push(rule.line)?;
         }
     }
+    lines.sort_unstable();
     Ok(lines)
 }
 
-/// Returns the numbers of the lines of the rules with these indexes, of an ignore file.
+/// Returns the numbers of the lines of the rules with these indexes, of an ignore file, in ascending order.
 fn ignoring_lines(
     alloc: Global,
     rules: &IgnoreRules<'_>,
@@ -215,5 +216,6 @@ fn ignoring_lines(
             lines.push(rule.line)?;
         }
     }
+    lines.sort_unstable();
     Ok(lines)
 }
