@@ -6,9 +6,6 @@
 //! With `-v` it prints for each path the file and the line that decide about it, as `git check-ignore -v -n` does. There may
 //! then be several ignore files, each for its own directory.
 
-mod arguments;
-mod deciding;
-mod ignore_file;
 mod walk;
 
 use crate::command::{Command, asks_for_help};
@@ -16,8 +13,6 @@ use crate::fault::Fault;
 use crate::output::{Output, print_text};
 use crate::paths::Paths;
 use crate::text_file::TextFile;
-use arguments::Named;
-use deciding::push_deciding;
 use std::process::ExitCode;
 use walk::Walk;
 
@@ -40,34 +35,77 @@ The exit status is 0, or 2 after an error, whose text is written to standard err
 /// Executes the arguments, and returns the exit status.
 pub fn run(rt: &HostRuntime, arguments: &[String]) -> Result<ExitCode, Fault> {
     match arguments {
-        [option, named @ ..] if option.as_str() == "-v" => print_deciding(rt, Named::new(named)?),
+        [option, others @ ..] if option.as_str() == "-v" => print_deciding(rt, others),
         [argument] if asks_for_help(argument) => print_text(rt, COMMAND.help),
-        [option, name] if option.as_str() == "-i" => print_paths(rt, name, true),
-        [name] => print_paths(rt, name, false),
+        [option, name] if option.as_str() == "-i" => print_paths(rt, name.as_str(), true),
+        [name] => print_paths(rt, name.as_str(), false),
         _ => Err(Fault::Usage),
     }
 }
 
 /// Prints the paths that the file does not ignore.
-fn print_paths(rt: &HostRuntime, name: &String, ignore_case: bool) -> Result<ExitCode, Fault> {
-    let file = TextFile::read(rt, name.as_str())?;
-    let mut walk = Walk::new(rt.alloc(), file.bytes(), ignore_case)?;
+fn print_paths(rt: &HostRuntime, name: &str, ignore_case: bool) -> Result<ExitCode, Fault> {
+    let file = TextFile::read(rt, name)?;
+    let mut walk = Walk::below_file(rt.alloc(), &file, ignore_case)?;
     let paths = Paths::read(rt)?;
     let mut output = Output::new(rt.alloc());
     for path in paths.ended_by(b'\n') {
-        if !walk.ignores(path)? {
+        let rule = walk.deciding_rule(path, false)?;
+        if rule.is_none_or(|rule| rule.is_negated) {
             output.push_line(&[path])?;
         }
     }
     output.write(rt)
 }
 
-/// Prints which line of the named files decides about each path.
-fn print_deciding(rt: &HostRuntime, named: Named<'_>) -> Result<ExitCode, Fault> {
-    let mut files = named.open(rt)?;
+/// Prints which line of the named files decides about each path. Returns an error if the arguments after `-v` name no file.
+fn print_deciding(rt: &HostRuntime, arguments: &[String]) -> Result<ExitCode, Fault> {
+    let Some(count) = arguments.iter().position(|it| !is_option(it)) else {
+        return Err(Fault::Usage);
+    };
+    let options = &arguments[..count];
+    let mut files = Vec::new(rt.alloc());
+    for name in &arguments[count..] {
+        files.push(TextFile::read(rt, name.as_str())?)?;
+    }
+    let mut walk = Walk::new(rt.alloc(), files, has(options, "-i"))?;
+    let ends = if has(options, "-z") {
+        [0, 0, 0]
+    } else {
+        [b':', b'\t', b'\n']
+    };
+    print_lines(rt, &mut walk, ends)
+}
+
+fn is_option(argument: &String) -> bool {
+    matches!(argument.as_str(), "-z" | "-i")
+}
+
+/// Returns whether there is such an option.
+fn has(options: &[String], name: &str) -> bool {
+    options.iter().any(|it| it.as_str() == name)
+}
+
+/// Prints what decides about each path of standard input, and the path. Given are the bytes after the name of a file and the
+/// number of a line, after the text of a line, and after a path, also in the input.
+fn print_lines(
+    rt: &HostRuntime,
+    walk: &mut Walk,
+    [colon, tab, end]: [u8; 3],
+) -> Result<ExitCode, Fault> {
     let paths = Paths::read(rt)?;
     let mut output = Output::new(rt.alloc());
-    let ends_in_nul = named.ends_in_nul;
-    push_deciding(rt.alloc(), &mut files, &paths, ends_in_nul, &mut output)?;
+    for given in paths.ended_by(end) {
+        let path = given.strip_suffix(b"/").unwrap_or(given);
+        match walk.deciding_rule(path, path.len() < given.len())? {
+            Some(rule) => {
+                let number = rule.line.to_string(rt.alloc())?;
+                let (file, text) = walk.file_and_text(rule);
+                output.push(&[file.as_bytes(), &[colon], number.as_bytes(), &[colon], text])?;
+            }
+            None => output.push(&[&[colon], &[colon]])?,
+        }
+        output.push(&[&[tab], given, &[end]])?;
+    }
     output.write(rt)
 }

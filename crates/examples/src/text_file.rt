@@ -2,6 +2,7 @@
 
 use crate::fault::Fault;
 use crate::lines::Lines;
+use memchr::memrchr;
 use std::alloc::{AllocError, Global};
 use std::fmt::Display;
 use std::{fs, str};
@@ -36,6 +37,15 @@ impl TextFile {
     /// Returns its name, as it was given.
     pub fn name(&self) -> &str {
         self.name.as_str()
+    }
+
+    /// Returns the directory in its name: empty, or with `/` at its end.
+    pub fn folder(&self) -> &[u8] {
+        let name = self.name().as_bytes();
+        match memrchr(b'/', name) {
+            Some(end) => &name[..end + 1],
+            None => &[],
+        }
     }
 
     /// Returns its bytes.
