@@ -13,7 +13,7 @@ mod unused;
 
 use crate::command::{Command, asks_for_help};
 use crate::fault::Fault;
-use crate::output::print_text;
+use crate::streams::print_text;
 use crate::text_file::TextFile;
 use findings::Findings;
 use ignoring::{IgnoreRules, is_ignore_file};
@@ -35,12 +35,6 @@ The exit status is 0 if nothing was written, 1 if a line was, and 2 after an err
 written to standard error with a mark under the place.",
 };
 
-/// The option that asks for pairs of rules.
-const OVERLAPS: &str = "--overlaps";
-
-/// The option that FILE is an ignore file.
-const IGNORE: &str = "--ignore";
-
 /// The most rows of a search.
 const LIMIT: usize = 10_000;
 
@@ -48,16 +42,13 @@ const LIMIT: usize = 10_000;
 pub fn run(rt: &HostRuntime, arguments: &[String]) -> Result<ExitCode, Fault> {
     match arguments {
         [argument] if asks_for_help(argument) => print_text(rt, COMMAND.help),
-        [option, name] if option.as_str() == OVERLAPS => check(rt, name.as_str(), true),
-        [option, name] if option.as_str() == IGNORE => check_ignore_file(rt, name.as_str()),
+        [option, name] if option.as_str() == "--overlaps" => check(rt, name.as_str(), true),
+        [option, name] if option.as_str() == "--ignore" => check_ignore_file(rt, name.as_str()),
         [name] if is_ignore_file(name.as_str()) => check_ignore_file(rt, name.as_str()),
-        [name] if !is_option(name.as_str()) => check(rt, name.as_str(), false),
+        [option] if matches!(option.as_str(), "--overlaps" | "--ignore") => Err(Fault::Usage),
+        [name] => check(rt, name.as_str(), false),
         _ => Err(Fault::Usage),
     }
-}
-
-fn is_option(argument: &str) -> bool {
-    argument == OVERLAPS || argument == IGNORE
 }
 
 /// Prints the rules of a file that never decide, or the pairs that overlap.

@@ -10,13 +10,13 @@ mod walk;
 
 use crate::command::Command;
 use crate::fault::Fault;
-use crate::output::print_text;
+use crate::streams::print_text;
 use crate::text_file::TextFile;
 use arguments::Arguments;
 use globs::Globs;
 use ignored::Ignored;
 use std::process::ExitCode;
-use walk::{Walk, first_pending};
+use walk::Walk;
 
 pub const COMMAND: Command = Command {
     name: "find_files",
@@ -58,11 +58,11 @@ pub fn run(rt: &HostRuntime, arguments: &[String]) -> Result<ExitCode, Fault> {
 
 /// Prints the paths that match, and returns the exit status.
 fn search(rt: &HostRuntime, arguments: &Arguments<'_>) -> Result<ExitCode, Fault> {
-    let pending = first_pending(rt.alloc(), arguments.folder())?;
     let globs = Globs::read(rt, arguments)?;
     let mut ignored = Ignored::new(rt.alloc(), arguments.flags.ignored);
     for name in &arguments.excludes {
         ignored.add_excludes(TextFile::read(rt, name)?.bytes())?;
     }
-    Walk::new(globs, ignored, pending, arguments.flags).run(rt)
+    let folder = arguments.folder();
+    Walk::new(rt.alloc(), folder, globs, ignored, arguments.flags)?.run(rt)
 }

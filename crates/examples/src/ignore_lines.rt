@@ -10,8 +10,8 @@ mod walk;
 
 use crate::command::{Command, asks_for_help};
 use crate::fault::Fault;
-use crate::output::{Output, print_text};
-use crate::paths::Paths;
+use crate::lines::Lines;
+use crate::streams::{Output, print_text, read_input};
 use crate::text_file::TextFile;
 use std::process::ExitCode;
 use walk::Walk;
@@ -46,10 +46,10 @@ pub fn run(rt: &HostRuntime, arguments: &[String]) -> Result<ExitCode, Fault> {
 /// Prints the paths that the file does not ignore.
 fn print_paths(rt: &HostRuntime, name: &str, ignore_case: bool) -> Result<ExitCode, Fault> {
     let file = TextFile::read(rt, name)?;
-    let mut walk = Walk::below_file(rt.alloc(), &file, ignore_case)?;
-    let paths = Paths::read(rt)?;
+    let mut walk = Walk::with_file(rt.alloc(), &file, ignore_case)?;
+    let input = read_input(rt)?;
     let mut output = Output::new(rt.alloc());
-    for path in paths.ended_by(b'\n') {
+    for path in Lines::new(&input, b'\n') {
         let rule = walk.deciding_rule(path, false)?;
         if rule.is_none_or(|rule| rule.is_negated) {
             output.push_line(&[path])?;
@@ -93,9 +93,9 @@ fn print_lines(
     walk: &mut Walk,
     [colon, tab, end]: [u8; 3],
 ) -> Result<ExitCode, Fault> {
-    let paths = Paths::read(rt)?;
+    let input = read_input(rt)?;
     let mut output = Output::new(rt.alloc());
-    for given in paths.ended_by(end) {
+    for given in Lines::new(&input, end) {
         let path = given.strip_suffix(b"/").unwrap_or(given);
         match walk.deciding_rule(path, path.len() < given.len())? {
             Some(rule) => {

@@ -18,19 +18,19 @@ mod fault;
 mod file_types;
 mod find_files;
 mod ignore_lines;
+mod labels;
 mod lines;
-mod output;
 mod owner_rule;
 mod owners;
-mod paths;
 mod shown;
+mod streams;
 mod text_file;
 
 use command::Command;
 use fault::Fault;
-use output::print_text;
 use std::env;
 use std::process::ExitCode;
+use streams::print_text;
 
 const PROGRAM: Command = Command {
     name: "examples",

@@ -3,14 +3,15 @@
 //! The argument names the owners file. Each line of standard input is the path of a file, from the root. It is printed with a
 //! tab and its owners, or `-` if it has none.
 
-mod rules;
-
 use crate::command::{Command, asks_for_help};
 use crate::fault::Fault;
-use crate::output::{Output, print_text};
-use crate::paths::Paths;
+use crate::labels::Labels;
+use crate::lines::Lines;
+use crate::owner_rule::OwnerRule;
+use crate::streams::{Output, print_text, read_input};
 use crate::text_file::TextFile;
-use rules::Rules;
+use globset::{Candidate, Error};
+use std::alloc::Global;
 use std::process::ExitCode;
 
 pub const COMMAND: Command = Command {
@@ -32,14 +33,39 @@ pub fn run(rt: &HostRuntime, arguments: &[String]) -> Result<ExitCode, Fault> {
     }
 }
 
-/// Prints each path with its owners, by the rules of the file.
+/// Prints each path with the owners of the last rule that matches it, if there are any.
 fn print_owners(rt: &HostRuntime, file: &TextFile) -> Result<ExitCode, Fault> {
-    let mut rules = Rules::read(rt.alloc(), file)?;
-    let paths = Paths::read(rt)?;
+    let rules = read_rules(rt.alloc(), file)?;
+    let mut searcher = rules.searcher(rt.alloc())?;
+    let input = read_input(rt)?;
     let mut output = Output::new(rt.alloc());
-    for path in paths.ended_by(b'\n') {
-        let owners = rules.owners(path).unwrap_or("-");
+    for path in Lines::new(&input, b'\n') {
+        let last = searcher.matches(&Candidate::from_bytes(path)).last();
+        let owners = match last.and_then(|index| rules.labels().get(*index)) {
+            Some(owners) if !owners.is_empty() => *owners,
+            _ => "-",
+        };
         output.push_line(&[path, b"\t", owners.as_bytes()])?;
     }
     output.write(rt)
+}
+
+/// Reads an owners file: the globs, each with the owners of its rule. Fails with the line if a pattern cannot be read.
+fn read_rules(alloc: Global, file: &TextFile) -> Result<Labels<'_>, Fault> {
+    let mut rules = Labels::new(alloc);
+    for (i, line) in file.lines(alloc)?.iter().enumerate() {
+        let rule = OwnerRule::new(line);
+        if let Err(error) = push_rule(alloc, &mut rules, rule) {
+            return Err(file.fault(alloc, i + 1, rule.pattern.as_bytes(), error.kind()));
+        }
+    }
+    Ok(rules)
+}
+
+/// Adds the globs of a rule, each with the owners.
+fn push_rule<'t>(alloc: Global, rules: &mut Labels<'t>, rule: OwnerRule<'t>) -> Result<(), Error> {
+    for glob in rule.globs(alloc)? {
+        rules.push(glob, rule.owners)?;
+    }
+    Ok(())
 }

@@ -2,8 +2,9 @@
 
 use crate::fault::Fault;
 use crate::lines::Lines;
+use crate::shown::Shown;
 use memchr::memrchr;
-use std::alloc::{AllocError, Global};
+use std::alloc::Global;
 use std::fmt::Display;
 use std::{fs, str};
 
@@ -72,8 +73,7 @@ impl TextFile {
         Ok(lines)
     }
 
-    /// Returns the error of a line: its number, counted from 1, the wrong part of its text, and the reason. If there is no memory
-    /// for that, returns the error that memory ran out.
+    /// Returns the error of a line: its number, counted from 1, the wrong part of its text, and the reason.
     pub fn fault(
         &self,
         alloc: Global,
@@ -81,54 +81,12 @@ impl TextFile {
         text: &[u8],
         reason: impl Display + Drop,
     ) -> Fault {
-        self.line_fault(alloc, number, text, reason)
-            .unwrap_or(Fault::OutOfMemory)
-    }
-
-    /// Returns the error of a line, with a mark under the byte at a place. If there is no memory for that, returns the error that
-    /// memory ran out.
-    pub fn marked_fault(
-        &self,
-        alloc: Global,
-        number: usize,
-        text: &[u8],
-        place: usize,
-        reason: impl Display + Drop,
-    ) -> Fault {
-        self.marked(alloc, number, text, place, reason)
-            .unwrap_or(Fault::OutOfMemory)
-    }
-
-    fn marked(
-        &self,
-        alloc: Global,
-        number: usize,
-        text: &[u8],
-        place: usize,
-        reason: impl Display + Drop,
-    ) -> Result<Fault, AllocError> {
-        Ok(Fault::Marked {
-            file: self.name.clone()?,
-            number,
-            text: text.to_vec(alloc)?,
-            place,
-            reason: reason.to_string(alloc)?,
-        })
-    }
-
-    fn line_fault(
-        &self,
-        alloc: Global,
-        number: usize,
-        text: &[u8],
-        reason: impl Display + Drop,
-    ) -> Result<Fault, AllocError> {
-        Ok(Fault::Line {
-            file: self.name.clone()?,
-            number,
-            text: text.to_vec(alloc)?,
-            reason: reason.to_string(alloc)?,
-        })
+        let Ok(reason) = reason.to_string(alloc) else {
+            return Fault::OutOfMemory;
+        };
+        let file = Shown(self.name.as_bytes());
+        let (text, reason) = (Shown(text), Shown(reason.as_bytes()));
+        Fault::text(format!(in alloc; "{file}: line {number}: {text}: {reason}"))
     }
 }
 

@@ -6,8 +6,8 @@ use super::overlaps::common;
 use super::rules::{Rule, Rules};
 use super::unused::{Use, uses};
 use crate::fault::Fault;
-use crate::output::Output;
 use crate::shown::Shown;
+use crate::streams::Output;
 use crate::text_file::TextFile;
 use glob_relations::{Domain, Intersection, RuleReachability, unreachable_rules};
 use std::alloc::{AllocError, Global};
@@ -18,16 +18,11 @@ use std::process::ExitCode;
 pub struct Findings<'a> {
     file: &'a str,
     output: Output,
-    is_empty: bool,
 }
 
 impl Drop for Findings<'_> {
     fn drop(self) {
-        let Findings {
-            file: _,
-            output: _,
-            is_empty: _,
-        } = self;
+        let Findings { file: _, output: _ } = self;
     }
 }
 
@@ -37,7 +32,6 @@ impl<'a> Findings<'a> {
         Findings {
             file: file.name(),
             output: Output::new(alloc),
-            is_empty: true,
         }
     }
 
@@ -99,23 +93,14 @@ impl<'a> Findings<'a> {
         rule: Rule<'_>,
         later: Rule<'_>,
     ) -> Result<(), Fault> {
-        match common(alloc, rules, rule, later)? {
-            Intersection::Disjoint => Ok(()),
-            Intersection::Both(path) => {
-                let pair = Pair {
-                    later,
-                    path: Shown(&path),
-                };
-                self.push(alloc, rule, "overlaps ", pair)
-            }
-            Intersection::Unknown => {
-                let pair = Pair {
-                    later,
-                    path: Shown(b"unknown"),
-                };
-                self.push(alloc, rule, "may overlap ", pair)
-            }
-        }
+        let (relation, path) = match common(alloc, rules, rule, later)? {
+            Intersection::Disjoint => return Ok(()),
+            Intersection::Both(path) => ("overlaps ", path),
+            Intersection::Unknown => ("may overlap ", b"unknown".to_vec(alloc)?),
+        };
+        let (pattern, path) = (Shown(later.pattern.as_bytes()), Shown(&path));
+        let pair = format!(in alloc; "line {}, {pattern}: {path}", later.line)?;
+        self.push(alloc, rule, relation, pair.as_str())
     }
 
     /// Adds a line about a rule.
@@ -141,7 +126,6 @@ impl<'a> Findings<'a> {
         let text = Shown(text);
         let file = Shown(self.file.as_bytes());
         let line = format!(in alloc; "{file}:{number}: {text} {relation}{what}")?;
-        self.is_empty = false;
         self.output.push_line(&[line.as_bytes()])?;
         Ok(())
     }
@@ -149,25 +133,11 @@ impl<'a> Findings<'a> {
     /// Writes the lines to standard output. Returns the exit status 0 if there are none, or else 1.
     pub fn write(&self, rt: &HostRuntime) -> Result<ExitCode, Fault> {
         let status = self.output.write(rt)?;
-        Ok(if self.is_empty {
+        Ok(if self.output.is_empty() {
             status
         } else {
             ExitCode::from(1)
         })
-    }
-}
-
-/// A later rule, and a path, as they are printed.
-#[derive(Clone, Copy)]
-struct Pair<'a> {
-    later: Rule<'a>,
-    path: Shown<'a>,
-}
-
-impl fmt::Display for Pair<'_> {
-    fn fmt<W: fmt::Write>(&self, f: &mut fmt::Formatter<W>) -> fmt::Result {
-        let pattern = Shown(self.later.pattern.as_bytes());
-        write!(f, "line {}, {pattern}: {}", self.later.line, self.path)
     }
 }
 

@@ -18,34 +18,19 @@ pub fn common(
     for first in rules.globs_of(a) {
         for second in rules.globs_of(b) {
             let told = overlap(alloc, first, second, Domain::RelativePaths, LIMIT)?;
-            found = shorter(found, told);
+            if rank(&told) < rank(&found) {
+                found = told;
+            }
         }
     }
     Ok(found)
 }
 
-/// Returns the one of two answers with the shorter path; one without a path only if both have none.
-fn shorter(a: Intersection, b: Intersection) -> Intersection {
-    match a {
-        Intersection::Both(path) => shorter_than(path, b),
-        Intersection::Disjoint => b,
-        Intersection::Unknown => match b {
-            Intersection::Both(path) => Intersection::Both(path),
-            Intersection::Disjoint | Intersection::Unknown => Intersection::Unknown,
-        },
-    }
-}
-
-/// Returns the answer with a path, or another answer if it has a shorter path.
-fn shorter_than(path: Vec<u8>, other: Intersection) -> Intersection {
-    match other {
-        Intersection::Both(other) => {
-            if other.len() < path.len() {
-                Intersection::Both(other)
-            } else {
-                Intersection::Both(path)
-            }
-        }
-        Intersection::Disjoint | Intersection::Unknown => Intersection::Both(path),
+/// Returns the rank of an answer, lower for a shorter path. That of no path is higher if it is certain.
+fn rank(told: &Intersection) -> usize {
+    match told {
+        Intersection::Both(path) => path.len(),
+        Intersection::Unknown => usize::MAX - 1,
+        Intersection::Disjoint => usize::MAX,
     }
 }

@@ -3,6 +3,7 @@
 use crate::command::Command;
 use crate::fault::Fault;
 use crate::owner_rule::OwnerRule;
+use crate::shown::Shown;
 use crate::text_file::TextFile;
 use globset::{Error, Glob};
 use std::alloc::{AllocError, Global};
@@ -38,7 +39,10 @@ impl<'t> Rules<'t> {
         file: &'t TextFile,
         command: Command,
     ) -> Result<Option<Rules<'t>>, Fault> {
-        let mut rules = Rules::new(rt.alloc());
+        let mut rules = Rules {
+            rules: Vec::new(rt.alloc()),
+            globs: Vec::new(rt.alloc()),
+        };
         let mut is_right = true;
         for (i, line) in file.lines(rt.alloc())?.iter().enumerate() {
             let rule = OwnerRule::new(line);
@@ -51,13 +55,6 @@ impl<'t> Rules<'t> {
             }
         }
         Ok(if is_right { Some(rules) } else { None })
-    }
-
-    fn new(alloc: Global) -> Rules<'t> {
-        Rules {
-            rules: Vec::new(alloc),
-            globs: Vec::new(alloc),
-        }
     }
 
     /// Adds a rule, if it has a pattern.
@@ -97,7 +94,7 @@ impl Rule<'_> {
     }
 }
 
-/// Returns the error of a line whose pattern cannot be read.
+/// Returns the error of a line whose pattern cannot be read: the line, with a mark under the place of the error.
 fn pattern_fault(
     alloc: Global,
     file: &TextFile,
@@ -112,5 +109,13 @@ fn pattern_fault(
     let place = OwnerRule::new(line)
         .place_in_pattern(offset)
         .saturating_add(indent);
-    Ok(file.marked_fault(alloc, number, line.as_bytes(), place, error.kind()))
+    let before = line.as_bytes().get(..place).unwrap_or(line.as_bytes());
+    let mut spaces = String::new(alloc);
+    for _ in Shown(before).to_string(alloc)?.chars() {
+        spaces.push(' ')?;
+    }
+    let reason = error.kind().to_string(alloc)?;
+    let (file, reason) = (Shown(file.name().as_bytes()), Shown(reason.as_bytes()));
+    let text = Shown(line.as_bytes());
+    Ok(Fault::Text(format!(in alloc; "{file}: line {number}: {reason}\n  {text}\n  {spaces}^")?))
 }

@@ -73,7 +73,13 @@ impl<'a> Arguments<'a> {
     /// Reads the arguments. Fails if an option is unknown, if the directory is missing or empty, or if there is neither a glob
     /// nor a file of globs nor `--ignored`.
     pub fn read(alloc: Global, arguments: &'a [String]) -> Result<Arguments<'a>, Fault> {
-        let mut read = Arguments::new(alloc);
+        let mut read = Arguments {
+            flags: Flags::default(),
+            files: Vec::new(alloc),
+            excludes: Vec::new(alloc),
+            words: Vec::new(alloc),
+            next: Next::Any,
+        };
         for argument in arguments {
             read.push(argument.as_str())?;
         }
@@ -81,16 +87,6 @@ impl<'a> Arguments<'a> {
             Ok(read)
         } else {
             Err(Fault::Usage)
-        }
-    }
-
-    fn new(alloc: Global) -> Arguments<'a> {
-        Arguments {
-            flags: Flags::default(),
-            files: Vec::new(alloc),
-            excludes: Vec::new(alloc),
-            words: Vec::new(alloc),
-            next: Next::Any,
         }
     }
 

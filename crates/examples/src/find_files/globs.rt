@@ -30,11 +30,24 @@ impl Globs {
     /// Reads the globs of the arguments, and of the files that they name; without any of them every path matches. Fails with the
     /// error of the first text that is not a glob, or if a file cannot be read.
     pub fn read(rt: &HostRuntime, arguments: &Arguments<'_>) -> Result<Globs, Fault> {
-        let mut globs = GlobSetBuilder::new(rt.alloc());
-        push_all(rt.alloc(), &mut globs, arguments)?;
-        push_files(rt, &mut globs, arguments)?;
+        let alloc = rt.alloc();
+        let mut globs = GlobSetBuilder::new(alloc);
+        if !arguments.has_globs() {
+            globs.push(Glob::new(alloc, "**")?)?;
+        }
+        for text in arguments.words.iter().skip(1) {
+            globs.push(glob(alloc, text, arguments.flags)?)?;
+        }
+        for name in &arguments.files {
+            push_lines(
+                alloc,
+                &mut globs,
+                &TextFile::read(rt, name)?,
+                arguments.flags,
+            )?;
+        }
         Ok(Globs {
-            searcher: Searcher::new(rt.alloc(), &globs.into_set()?)?,
+            searcher: Searcher::new(alloc, &globs.into_set()?)?,
         })
     }
 
@@ -48,34 +61,6 @@ impl Globs {
     }
 }
 
-/// Adds the globs of the arguments, or `**` if they have none and name no file of them.
-fn push_all(
-    alloc: Global,
-    globs: &mut GlobSetBuilder,
-    arguments: &Arguments<'_>,
-) -> Result<(), Error> {
-    if !arguments.has_globs() {
-        return globs.push(Glob::new(alloc, "**")?);
-    }
-    for text in arguments.words.iter().skip(1) {
-        globs.push(glob(alloc, text, arguments.flags)?)?;
-    }
-    Ok(())
-}
-
-/// Adds the globs of the files.
-fn push_files(
-    rt: &HostRuntime,
-    globs: &mut GlobSetBuilder,
-    arguments: &Arguments<'_>,
-) -> Result<(), Fault> {
-    for name in &arguments.files {
-        let file = TextFile::read(rt, name)?;
-        push_lines(rt.alloc(), globs, &file, arguments.flags)?;
-    }
-    Ok(())
-}
-
 /// Adds the globs of the lines of a file. Fails with the line if a text is not a glob.
 fn push_lines(
     alloc: Global,
@@ -84,24 +69,15 @@ fn push_lines(
     flags: Flags,
 ) -> Result<(), Fault> {
     for (i, line) in file.lines(alloc)?.iter().enumerate() {
-        if let Err(error) = push_line(alloc, globs, line, flags) {
-            return Err(file.fault(alloc, i + 1, line.as_bytes(), error.kind()));
+        if line.trim().is_empty() || line.starts_with('#') {
+            continue;
+        }
+        match glob(alloc, line, flags) {
+            Ok(glob) => globs.push(glob)?,
+            Err(error) => return Err(file.fault(alloc, i + 1, line.as_bytes(), error.kind())),
         }
     }
     Ok(())
-}
-
-/// Adds the glob of a line, if there is any.
-fn push_line(
-    alloc: Global,
-    globs: &mut GlobSetBuilder,
-    line: &str,
-    flags: Flags,
-) -> Result<(), Error> {
-    if line.trim().is_empty() || line.starts_with('#') {
-        return Ok(());
-    }
-    globs.push(glob(alloc, line, flags)?)
 }
 
 /// Returns the glob of a text.

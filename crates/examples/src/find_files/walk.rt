@@ -20,15 +20,12 @@ use std::process::ExitCode;
 pub struct Walk {
     globs: Globs,
     ignored: Ignored,
+    flags: Flags,
     /// The paths of files to print and of directories to open, the next path last. Paths of directories end in `/`. Each path
     /// begins with that of the first directory.
     pending: Vec<String>,
     /// How many bytes of a path are not printed: the first directory, and `/`.
     skipped: usize,
-    /// The byte after each printed path.
-    end: u8,
-    /// Whether directories are counted.
-    counts: bool,
     opened: u64,
     left_closed: u64,
     /// Whether a path was printed.
@@ -42,10 +39,9 @@ impl Drop for Walk {
         let Walk {
             globs: _,
             ignored: _,
+            flags: _,
             pending: _,
             skipped: _,
-            end: _,
-            counts: _,
             opened: _,
             left_closed: _,
             has_printed: _,
@@ -55,52 +51,49 @@ impl Drop for Walk {
 }
 
 impl Walk {
-    /// Returns a walk that has these paths pending, as [`first_pending`] returns them.
-    pub fn new(globs: Globs, ignored: Ignored, pending: Vec<String>, flags: Flags) -> Walk {
-        let skipped = match pending.first() {
-            Some(folder) => folder.len(),
-            None => 0,
-        };
-        Walk {
-            skipped,
+    /// Returns a walk that is to open this directory.
+    pub fn new(
+        alloc: Global,
+        folder: &str,
+        globs: Globs,
+        ignored: Ignored,
+        flags: Flags,
+    ) -> Result<Walk, AllocError> {
+        let folder = with_slash(alloc, folder.strip_suffix('/').unwrap_or(folder))?;
+        let skipped = folder.len();
+        let mut pending = Vec::new(alloc);
+        pending.push(folder)?;
+        Ok(Walk {
             globs,
             ignored,
+            flags,
             pending,
-            end: if flags.ends_in_nul { 0 } else { b'\n' },
-            counts: flags.count,
+            skipped,
             opened: 0,
             left_closed: 0,
             has_printed: false,
             has_failed: false,
-        }
+        })
     }
 
     /// Walks, and prints the paths that match. Returns the exit status.
     ///
     /// Entries that cannot be read are left out, with an error on standard error. Fails if standard output cannot be written.
     pub fn run(mut self, rt: &HostRuntime) -> Result<ExitCode, Fault> {
-        match BufWriter::new(rt.alloc(), io::writer(rt)) {
-            Ok(mut output) => self.walk_through(rt, &mut output),
-            Err(error) => Err(Fault::Output(error)),
+        let mut output = BufWriter::new(rt.alloc(), io::writer(rt)).map_err(Fault::Output)?;
+        for _ in 0..u64::MAX {
+            let Some(path) = self.pending.pop() else {
+                break;
+            };
+            self.visit(rt, path.as_str(), &mut output)?;
         }
-    }
-
-    /// The same, with the writer that it prints to, which is flushed at the end.
-    fn walk_through<W: Write>(
-        &mut self,
-        rt: &HostRuntime,
-        output: &mut W,
-    ) -> Result<ExitCode, Fault> {
-        self.walk(rt, output)?;
-        match output.flush() {
-            Ok(()) => Ok(self.finish(rt)),
-            Err(error) => Err(Fault::Output(error)),
-        }
+        output.flush().map_err(Fault::Output)?;
+        Ok(self.finish(rt))
     }
 
     /// Prints the numbers of directories, if they are wanted, and returns the exit status.
     fn finish(&self, rt: &HostRuntime) -> ExitCode {
-        if self.counts {
+        if self.flags.count {
             let (opened, closed) = (self.opened, self.left_closed);
             let _ = eprintln!(rt; "find_files: folders opened: {opened}, left closed: {closed}");
         }
@@ -113,62 +106,38 @@ impl Walk {
         }
     }
 
-    /// Handles pending paths, until there are none.
-    fn walk<W: Write>(&mut self, rt: &HostRuntime, output: &mut W) -> Result<(), Fault> {
-        for _ in 0..u64::MAX {
-            let Some(path) = self.pending.pop() else {
-                break;
-            };
-            self.visit(rt, path.as_str(), output)?;
-        }
-        Ok(())
-    }
-
-    /// Opens a directory, or prints the path of a file or of a repository in the first directory.
+    /// Opens a directory, or prints the path of a file. A repository in the first directory stays closed, and its path is printed
+    /// if it matches.
     fn visit<W: Write>(
         &mut self,
         rt: &HostRuntime,
         path: &str,
         output: &mut W,
     ) -> Result<(), Fault> {
-        if !path.ends_with('/') {
-            self.print(path, output)
-        } else if self.is_nested(rt, path)? {
-            self.print_repository(path, output)
-        } else {
-            self.open(rt, path)
-        }
-    }
-
-    /// Returns whether a directory below the first one is a repository of its own.
-    fn is_nested(&self, rt: &HostRuntime, folder: &str) -> Result<bool, AllocError> {
-        if self.shown(folder).is_empty() {
-            Ok(false)
-        } else {
-            self.ignored.is_repository(rt, folder)
-        }
-    }
-
-    /// Leaves a repository closed, and prints its path if it matches.
-    fn print_repository<W: Write>(&mut self, path: &str, output: &mut W) -> Result<(), Fault> {
-        self.left_closed = self.left_closed.saturating_add(1);
         let below = self.shown(path);
-        let name = below.strip_suffix('/').unwrap_or(below);
-        if self.globs.wanted(name).is_file {
-            self.print(path, output)
-        } else {
-            Ok(())
+        if !path.ends_with('/') {
+            return self.print(below, output);
         }
+        if below.is_empty() || !self.ignored.is_repository(rt, path)? {
+            return self.open(rt, path);
+        }
+        self.left_closed = self.left_closed.saturating_add(1);
+        if self
+            .globs
+            .wanted(below.strip_suffix('/').unwrap_or(below))
+            .is_file
+        {
+            self.print(below, output)?;
+        }
+        Ok(())
     }
 
-    /// Prints the path of a file.
-    fn print<W: Write>(&mut self, path: &str, output: &mut W) -> Result<(), Fault> {
+    /// Prints a path, which is below the first directory.
+    fn print<W: Write>(&mut self, below: &str, output: &mut W) -> Result<(), Fault> {
         self.has_printed = true;
-        let end = [self.end];
-        output
-            .write_all(self.shown(path).as_bytes())
-            .map_err(Fault::Output)?;
-        output.write_all(&end).map_err(Fault::Output)
+        let end = if self.flags.ends_in_nul { b'\0' } else { b'\n' };
+        output.write_all(below.as_bytes()).map_err(Fault::Output)?;
+        output.write_all(&[end]).map_err(Fault::Output)
     }
 
     /// Returns the part of a path that globs are matched against and that is printed.
@@ -179,7 +148,10 @@ impl Walk {
     /// Opens a directory. Its entries are then pending, in the order of their bytes.
     fn open(&mut self, rt: &HostRuntime, folder: &str) -> Result<(), Fault> {
         self.opened = self.opened.saturating_add(1);
-        self.read_ignore_files(rt, folder)?;
+        let below = self.shown(folder);
+        if let Some(error) = self.ignored.enter(rt, folder, below)? {
+            self.report(rt, folder, error);
+        }
         let first = self.pending.len();
         match fs::read_dir(rt, folder) {
             Ok(entries) => self.take_all(rt, folder, entries)?,
@@ -187,15 +159,6 @@ impl Walk {
         }
         if let Some(added) = self.pending.as_mut_slice().get_mut(first..) {
             added.sort_unstable_by(|one, other| other.as_str().cmp(one.as_str()));
-        }
-        Ok(())
-    }
-
-    /// Reads the ignore files of a directory, if they are wanted.
-    fn read_ignore_files(&mut self, rt: &HostRuntime, folder: &str) -> Result<(), Fault> {
-        let below = self.shown(folder);
-        if let Some(error) = self.ignored.enter(rt, folder, below)? {
-            self.report(rt, folder, error);
         }
         Ok(())
     }
@@ -216,7 +179,7 @@ impl Walk {
         let path = entry.path().as_str();
         let shown = self.shown(path);
         let wanted = self.globs.wanted(shown);
-        if !wanted.is_file && !wanted.is_folder && !self.counts {
+        if !wanted.is_file && !wanted.is_folder && !self.flags.count {
             return Ok(());
         }
         match entry.file_type() {
@@ -228,7 +191,8 @@ impl Walk {
         }
     }
 
-    /// Takes an entry of this kind, unless it is ignored. A directory that is ignored is left closed.
+    /// Takes an entry of this kind, unless it is ignored: its path is then pending. Links are left out, unless ignore files are
+    /// read, as git prints them. Other things that are neither a file nor a directory are left out, too.
     fn take_kind(
         &mut self,
         alloc: Global,
@@ -238,44 +202,16 @@ impl Walk {
     ) -> Result<(), Fault> {
         let below = self.shown(path);
         let is_kept = !self.ignored.leaves_out(below, kind.is_dir())?;
-        let wanted = Wanted {
-            is_file: wanted.is_file && is_kept,
-            is_folder: wanted.is_folder && is_kept,
-        };
-        Ok(self.push(alloc, path, kind, wanted)?)
-    }
-
-    /// Adds a path to the pending paths, if it is wanted. Links are left out, unless ignore files are read, as git prints them.
-    /// Other things that are neither a file nor a directory are left out, too.
-    fn push(
-        &mut self,
-        alloc: Global,
-        path: &str,
-        kind: FileType,
-        wanted: Wanted,
-    ) -> Result<(), AllocError> {
         if kind.is_dir() {
-            self.push_folder(alloc, path, wanted.is_folder)
-        } else if self.ignored.is_file(kind) && wanted.is_file {
-            Ok(self.pending.push(String::from_str(alloc, path)?)?)
-        } else {
-            Ok(())
+            if wanted.is_folder && is_kept {
+                self.pending.push(with_slash(alloc, path)?)?;
+            } else {
+                self.left_closed = self.left_closed.saturating_add(1);
+            }
+        } else if wanted.is_file && is_kept && self.ignored.is_file(kind) {
+            self.pending.push(String::from_str(alloc, path)?)?;
         }
-    }
-
-    /// Adds a directory to the pending paths, if it is wanted, and otherwise counts it as left closed.
-    fn push_folder(
-        &mut self,
-        alloc: Global,
-        path: &str,
-        is_wanted: bool,
-    ) -> Result<(), AllocError> {
-        if is_wanted {
-            Ok(self.pending.push(with_slash(alloc, path)?)?)
-        } else {
-            self.left_closed = self.left_closed.saturating_add(1);
-            Ok(())
-        }
+        Ok(())
     }
 
     /// Prints that something cannot be read.
@@ -284,13 +220,6 @@ impl Walk {
         let name = path.strip_suffix('/').unwrap_or(path);
         COMMAND.report(rt, &Fault::file(rt.alloc(), name, said(error)));
     }
-}
-
-/// Returns the pending paths before the first directory is opened: the directory's.
-pub fn first_pending(alloc: Global, folder: &str) -> Result<Vec<String>, AllocError> {
-    let mut pending = Vec::new(alloc);
-    pending.push(with_slash(alloc, folder.strip_suffix('/').unwrap_or(folder))?)?;
-    Ok(pending)
 }
 
 /// Returns the path of a directory with `/` at its end.

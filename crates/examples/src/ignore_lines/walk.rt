@@ -22,7 +22,7 @@ impl Drop for Walk {
 
 impl Walk {
     /// Returns a walk in the top directory, which has this ignore file.
-    pub fn below_file(
+    pub fn with_file(
         alloc: Global,
         file: &TextFile,
         ignore_case: bool,

@@ -1,9 +1,18 @@
-//! The output of a command.
+//! The standard input and output of a command.
 
 use crate::fault::Fault;
 use std::alloc::{AllocError, Global};
-use std::io::{self, Write};
+use std::io::{self, Read, Write};
 use std::process::ExitCode;
+
+/// Reads standard input to its end. Fails if it cannot be read.
+pub fn read_input(rt: &HostRuntime) -> Result<Vec<u8>, Fault> {
+    let mut bytes = Vec::new(rt.alloc());
+    match rt.reader().read_to_end(&mut bytes) {
+        Ok(_) => Ok(bytes),
+        Err(error) => Err(Fault::Input(error)),
+    }
+}
 
 /// Lines that are written to standard output at once, so that an error before leaves nothing written.
 pub struct Output {
@@ -38,27 +47,22 @@ impl Output {
         Ok(())
     }
 
+    /// Returns whether there are no lines.
+    pub fn is_empty(&self) -> bool {
+        self.bytes.is_empty()
+    }
+
     /// Writes the lines to standard output, and returns the exit status. After an error a beginning of them was written.
     pub fn write(&self, rt: &HostRuntime) -> Result<ExitCode, Fault> {
-        written(write_to_stdout(rt, &self.bytes))
+        let mut stdout = io::writer(rt);
+        stdout.write_all(&self.bytes).map_err(Fault::Output)?;
+        stdout.flush().map_err(Fault::Output)?;
+        Ok(ExitCode::SUCCESS)
     }
 }
 
 /// Writes a text and LF to standard output, and returns the exit status.
 pub fn print_text(rt: &HostRuntime, text: &str) -> Result<ExitCode, Fault> {
-    written(rt.println(text))
-}
-
-/// Returns the exit status where all was written.
-fn written(ended: io::Result<()>) -> Result<ExitCode, Fault> {
-    match ended {
-        Ok(()) => Ok(ExitCode::SUCCESS),
-        Err(error) => Err(Fault::Output(error)),
-    }
-}
-
-fn write_to_stdout(rt: &HostRuntime, bytes: &[u8]) -> io::Result<()> {
-    let mut stdout = io::writer(rt);
-    stdout.write_all(bytes)?;
-    stdout.flush()
+    rt.println(text).map_err(Fault::Output)?;
+    Ok(ExitCode::SUCCESS)
 }

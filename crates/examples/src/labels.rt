@@ -1,0 +1,46 @@
+//! Globs, each with a label.
+
+use globset::{Error, Glob, GlobSetBuilder, Searcher};
+use std::alloc::Global;
+
+/// The globs of a file, and for each of them a label: what the file says of the paths that it matches.
+pub struct Labels<'t> {
+    globs: GlobSetBuilder,
+    labels: Vec<&'t str>,
+}
+
+impl Drop for Labels<'_> {
+    fn drop(self) {
+        let Labels {
+            globs: _,
+            labels: _,
+        } = self;
+    }
+}
+
+impl<'t> Labels<'t> {
+    /// Returns no globs.
+    pub fn new(alloc: Global) -> Labels<'t> {
+        Labels {
+            globs: GlobSetBuilder::new(alloc),
+            labels: Vec::new(alloc),
+        }
+    }
+
+    /// Adds a glob and its label.
+    pub fn push(&mut self, glob: Glob, label: &'t str) -> Result<(), Error> {
+        self.globs.push(glob)?;
+        self.labels.push(label)?;
+        Ok(())
+    }
+
+    /// Returns the globs' labels, by their indexes.
+    pub fn labels(&self) -> &[&'t str] {
+        &self.labels
+    }
+
+    /// Returns the globs as a set, with all the memory that they are matched with.
+    pub fn searcher(&self, alloc: Global) -> Result<Searcher, Error> {
+        Searcher::new(alloc, &self.globs.build()?)
+    }
+}
