@@ -3,7 +3,8 @@
 //! A rule never decides if later rules match each path that it matches. With `--overlaps` it prints the pairs of rules that match
 //! a path in common. Paths are those that git has: relative, with components that are not empty, `.` or `..`.
 //!
-//! An ignore file is told by its name, or by `--ignore`. Its rules for folders alone cover only rules for folders alone.
+//! An ignore file is told by its name, or by `--ignore`. Its rules for folders alone cover only rules for folders alone, and no rule
+//! decides about what lies below an ignored folder.
 
 mod findings;
 mod ignoring;
@@ -27,8 +28,8 @@ pub const COMMAND: Command = Command {
 Each line of FILE is a pattern and its owners, as a CODEOWNERS has them; the last rule that matches a path decides about it.
 For each rule that never decides, its line, its pattern and the lines that cover it are written to standard output.
 With --overlaps it is each pair of rules that match a path in common, with a shortest such path.
-With --ignore, or if FILE is named .gitignore or .ignore, FILE has patterns as a .gitignore has them. Then a rule never decides if no
-path is decided by it alone, without the folders above the path.
+With --ignore, or if FILE is named .gitignore or .ignore, FILE has patterns as a .gitignore has them. Then a rule does not decide about
+what lies in an ignored directory, and the line of a rule that ignores one is written.
 Paths are relative, and no component is empty, . or .. in them. A line says unknown where an answer takes more than 10,000 sets of
 states.
 The exit status is 0 if nothing was written, 1 if a line was, and 2 after an error. For each pattern that is wrong, the line is

@@ -61,11 +61,16 @@ impl<'a> Findings<'a> {
         let found = unreachable_rules(alloc, &rules.patterns, false, domain, LIMIT)?;
         for (rule, found) in rules.rules.iter().zip(&found) {
             match found {
-                RuleReachability::Decides(_) | RuleReachability::Hidden(_) => {}
+                RuleReachability::Decides(_) => {}
                 RuleReachability::Never(by) => {
                     let lines = ignoring_lines(alloc, rules, by)?;
                     let covering = Covering(&lines);
                     self.push_line(alloc, rule.line, rule.text, "never decides: ", covering)?;
+                }
+                RuleReachability::Hidden(by) => {
+                    let lines = ignoring_lines(alloc, rules, &[*by])?;
+                    let hiding = Hiding(&lines);
+                    self.push_line(alloc, rule.line, rule.text, "never decides: ", hiding)?;
                 }
                 RuleReachability::Unknown => {
                     self.push_line(alloc, rule.line, rule.text, "may never decide: ", "unknown")?;
@@ -159,6 +164,20 @@ impl fmt::Display for Covering<'_> {
                 write!(f, " and {last} cover it")
             }
         }
+    }
+}
+
+/// The line of a rule that ignores a directory above what another matches, as it is printed.
+#[derive(Clone, Copy)]
+struct Hiding<'a>(&'a [usize]);
+
+impl fmt::Display for Hiding<'_> {
+    fn fmt<W: fmt::Write>(&self, f: &mut fmt::Formatter<W>) -> fmt::Result {
+        f.write_str("its paths lie in ignored directories, as by line")?;
+        for line in self.0 {
+            write!(f, " {line}")?;
+        }
+        Ok(())
     }
 }
 
