@@ -27,21 +27,6 @@ impl Model for Lent {
 }
 
 impl Lent {
-    ghost use Rattle.globset_c.specs.declared.lent.Lent.{Lent};
-
-    /// Lends an object to `f`, which gives it back.
-    pub fn lend<X, R, F: FnOnce(Lent, X) -> (R, Lent)>(object: &Object, x: X, f: F) -> R
-        requires asks { (l : Lent) → l.object ≡ object.now → F.pre f l x }
-        requires back { (l : Lent) → l.object ≡ object.now → (r : R) → (m : Lent)
-            → F.post f l x (r, m) → m ≡ l }
-        ensures { (l : Lent) × (l.object ≡ object.now) × F.post f l x (result, l) }
-    {
-        let lent = Lent {
-            at: object as *const Object as *const u8,
-        };
-        f(lent, x).0
-    }
-
     /// Calls `f` on the object.
     pub fn read<X, R, F: FnOnce(&Object, X) -> R>(&mut self, x: X, f: F) -> R
         requires { (r : Bor Object) → r.now ≡ self.old.object → F.pre f r x }

@@ -8,7 +8,6 @@ ghost use Rattle.globset_c.specs.Held.{held, object_coded};
 
 mod parts;
 
-use crate::lent::Lent;
 use crate::object::Object;
 use parts::Parts;
 use std::alloc::Global;
@@ -33,7 +32,6 @@ impl Model for Owned {
 impl Owned {
     ghost use Rattle.std.specs.Borrow.{sem};
     ghost use Rattle.globset_c.specs.Lending.{LendsObject};
-    ghost use Rattle.globset_c.specs.declared.lent.Lent.{Lent};
 
     /// Makes the owner of this box.
     pub fn of(object: Box<Object>) -> Owned
@@ -59,18 +57,6 @@ impl Owned {
         ensures value { self.old.object ≡ Some result.now }
     {
         unsafe { &mut *(self.at as *mut Object) }
-    }
-
-    /// Lends the object to `f`, which gives it back.
-    pub fn lend<X, R, F: FnOnce(Lent, X) -> (R, Lent)>(&mut self, x: X, f: F) -> R
-        requires owns { IsSome self.old.object }
-        requires asks { (l : Lent) → Some l.object ≡ self.old.object → F.pre f l x }
-        requires back { (l : Lent) → Some l.object ≡ self.old.object → (r : R) → (m : Lent)
-            → F.post f l x (r, m) → m ≡ l }
-        ensures same { self.new.object ≡ self.old.object }
-        ensures answer { (l : Lent) × (Some l.object ≡ self.old.object) × F.post f l x (result, l) }
-    {
-        Lent::lend(self.as_mut(), x, f)
     }
 
     /// Takes the box out, so that nothing is owned until another is put in.
