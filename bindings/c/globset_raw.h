@@ -76,7 +76,8 @@ enum {
     GLOBSET_BAD_ENDS = 8,       /* an end of a path is below the one before it, or beyond the bytes, or has no answer */
     GLOBSET_TOO_SMALL = 9,      /* the text is longer than the room for it, or the indexes are more */
     GLOBSET_LIMIT_REACHED = 10, /* a search has more rows than its limit */
-    GLOBSET_BAD_INDEX = 11      /* there is no answer, or no ignore file, of this index */
+    GLOBSET_BAD_INDEX = 11,     /* there is no answer, or no ignore file, of this index, or no line of this number */
+    GLOBSET_BELOW_IGNORED = 12  /* each path about which a rule decides alone is below an ignored directory */
 };
 
 /* ---- Types ---- */
@@ -91,15 +92,15 @@ typedef struct globset_lent {
     const void *at;
 } globset_lent;
 
-/* Bytes that answers lend. Before a call that writes them they have to be valid: with the count 0 `at` is any address
- * of a byte. */
+/* Bytes that answers or a walk lend. Before a call that writes them they have to be valid: with the count 0 `at` is any
+ * address of a byte. */
 typedef struct globset_bytes {
     const uint8_t *at;
     size_t count;
 } globset_bytes;
 
-/* Indexes that a work, a searcher or answers lend, and numbers of lines that a walk lends. Before a call that writes them
- * they have to be valid: with the count 0 `at` is any address of a size_t. */
+/* Indexes that a work, a searcher or answers lend, and numbers of lines that answers or a walk lend. Before a call that
+ * writes them they have to be valid: with the count 0 `at` is any address of a size_t. */
 typedef struct globset_indexes {
     const size_t *at;
     size_t count;
@@ -302,12 +303,18 @@ globset_status globset_raw_unreachable(globset_lent *globs, size_t globs_len, ui
                                        size_t limit, globset_owned *out);
 
 /* Lends what the answer of an index tells. It takes no memory. GLOBSET_YES: there is a path, which is in `path`.
- * GLOBSET_NO: there is none, and `indexes` has the indexes. GLOBSET_LIMIT_REACHED: the search had more rows than its
- * limit. GLOBSET_BAD_INDEX: there is no such answer. GLOBSET_WRONG_KIND: the object is no answers. `path` has the count
- * 0 after each status but GLOBSET_YES, and `indexes` after each but GLOBSET_NO. Both may be read until the next call
- * that the answers are passed to, globset_raw_free too. The caller writes nothing there. */
+ * GLOBSET_NO: there is none, and `indexes` has the indexes. GLOBSET_BELOW_IGNORED, only of a rule of an ignore file: such
+ * paths are below ignored directories, and `indexes` has one index. GLOBSET_LIMIT_REACHED: the search had more rows than
+ * its limit. GLOBSET_BAD_INDEX: there is no such answer. GLOBSET_WRONG_KIND: the object is no answers. `path` has the
+ * count 0 after each status but GLOBSET_YES, and `indexes` after each but GLOBSET_NO and GLOBSET_BELOW_IGNORED. Both may
+ * be read until the next call that the answers are passed to, globset_raw_free too. The caller writes nothing there. */
 globset_status globset_raw_answers_at(globset_owned *answers, size_t index, globset_bytes *path,
                                       globset_indexes *indexes);
+
+/* Lends the numbers of the lines of the rules, from 1, of answers that globset_raw_ignore_unreachable made: one for each
+ * answer. Other answers have none. It takes no memory. GLOBSET_DONE: they may be read as long as what
+ * globset_raw_answers_at lends. The caller writes nothing there. GLOBSET_WRONG_KIND: `lines` has the count 0. */
+globset_status globset_raw_answers_lines(globset_owned *answers, globset_indexes *lines);
 
 /* Makes a walk in its top directory, without ignore files. The only bit of options is GLOBSET_IGNORE_CASE.
  * GLOBSET_DONE, GLOBSET_UNKNOWN_OPTION, GLOBSET_OUT_OF_MEMORY. */
@@ -355,6 +362,25 @@ globset_status globset_raw_ignore_rules_many(globset_owned *ignore, const uint8_
  * may be read until the next call that the walk is passed to, globset_raw_free too. The caller writes nothing there.
  * GLOBSET_BAD_INDEX, GLOBSET_WRONG_KIND: `lines` has the count 0. */
 globset_status globset_raw_ignore_unread_lines(globset_owned *ignore, size_t file, globset_indexes *lines);
+
+/* Lends the text of a line of a file: the line without a carriage return at its end, up to its first NUL, and without the
+ * spaces at its end. The file is that of an index, and the line that of a number, as globset_raw_ignore_decide tells them.
+ * It takes no memory. GLOBSET_DONE: the text may be read until the next call that the walk is passed to, globset_raw_free
+ * too. The caller writes nothing there. GLOBSET_BAD_INDEX: there is no such file, or it has no such line.
+ * GLOBSET_WRONG_KIND. After these two `text` has the count 0. */
+globset_status globset_raw_ignore_line_text(globset_owned *ignore, size_t file, size_t line, globset_bytes *text);
+
+/* Decides for each rule of an ignore file whether it ever decides about a path of the domain: each line of the file with a
+ * pattern is a rule, and its index counts these from 0. The file is that of an index as globset_raw_ignore_decide tells it.
+ * Its rules are taken without those of other files, and paths begin in its directory. GLOBSET_DONE: `out` owns an answer
+ * for each rule, in the order of the lines, which globset_raw_answers_lines lends. A rule decides about a path alone if it
+ * applies to it and no later rule does. The answer's path is a shortest such path with no ignored directory above it. If
+ * the rule decides about no path alone, the indexes are those of later rules that cover it together, as at
+ * globset_raw_unreachable. If each such path is below an ignored directory, the answer is GLOBSET_BELOW_IGNORED, and its
+ * index that of a rule that ignores a directory above one. GLOBSET_BAD_INDEX: there is no such file.
+ * GLOBSET_UNKNOWN_OPTION: there is no such domain. Otherwise as globset_raw_covering. */
+globset_status globset_raw_ignore_unreachable(globset_owned *ignore, size_t file, uint32_t domain, size_t limit,
+                                              globset_owned *out);
 
 /* Frees an object of any kind. The caller owns it, it is lent to nobody, and what it lends is not read any more. */
 void globset_raw_free(globset_owned object);

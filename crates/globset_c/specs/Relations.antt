@@ -1,7 +1,10 @@
--- Questions about globs, and what their answers tell.
-use Rattle.std.specs.Prelude.{◌≡◌, ◌==◌, ℕ, ◌<◌, Option, Some, List, [], ◌∷◌, length, map, slice_get, if◌then◌else◌}
+-- Questions about globs and rules of ignore files, and what their answers tell.
+use Rattle.std.specs.Prelude.{◌≡◌, ◌==◌, ℕ, ◌<◌, Bool, Option, Some, List, [], ◌∷◌, length, map, slice_get, IsSomeAnd, if◌then◌else◌}
+use Rattle.git_ignore.specs.Rules.{lines_of_rules, patterns_of, rules_of}
+use Rattle.git_ignore.specs.StackValue.{file_at}
 use Rattle.glob_text.specs.GlobMatches.{GlobValue}
 use Rattle.glob_relations.specs.Answers.{TellsCovering, TellsOverlap}
+use Rattle.glob_relations.specs.Rules.{TellsRule}
 use Rattle.glob_relations.specs.Unused.{rivals, TellsReachability}
 use Rattle.glob_relations.specs.declared.domain.Domain.{Domain}
 use Rattle.glob_relations.specs.declared.domain.Domain.TheVariants.{AllPaths, RelativePaths}
@@ -9,6 +12,8 @@ use Rattle.glob_relations.specs.declared.relations.Coverage.{Coverage}
 use Rattle.glob_relations.specs.declared.relations.Coverage.TheVariants as coverage
 use Rattle.glob_relations.specs.declared.relations.Intersection.{Intersection}
 use Rattle.glob_relations.specs.declared.relations.Intersection.TheVariants as intersection
+use Rattle.glob_relations.specs.declared.rules.RuleReachability.{RuleReachability}
+use Rattle.glob_relations.specs.declared.rules.RuleReachability.TheVariants as rule
 use Rattle.glob_relations.specs.declared.unused.Decides.{Decides}
 use Rattle.glob_relations.specs.declared.unused.Decides.TheVariants.{First, Last}
 use Rattle.glob_relations.specs.declared.unused.Reachability.{Reachability}
@@ -16,10 +21,12 @@ use Rattle.glob_relations.specs.declared.unused.Reachability.TheVariants as reac
 use Rattle.globset_c.specs.declared.answers.Answer.{Answer}
 use Rattle.globset_c.specs.declared.answers.Answer.TheVariants as answer
 use Rattle.globset_c.specs.declared.answers.Answers.{Answers}
+use Rattle.globset_c.specs.declared.answers.RuleAnswers.{RuleAnswers}
 use Rattle.globset_c.specs.declared.answers.Answers.TheVariants as answers
 use Rattle.globset_c.specs.declared.object.Object.{Object}
 use Rattle.globset_c.specs.declared.object.Object.TheVariants.{Answers as Answered}
-use Rattle.globset_c.specs.Kinds.{IfGlob}
+use Rattle.globset_c.specs.Kinds.{IfGlob, IfIgnore}
+use Rattle.ignore_pattern.specs.Patterns.{Pattern}
 
 -- the number stands for a domain
 abbrev pub IsDomain : ℕ → Type 0
@@ -52,6 +59,11 @@ abbrev pub IfReachabilities : Option Object → (List Reachability → Type 0) �
 IfReachabilities (Some (Answered (answers.Reachabilities all))) P = P all.items
 IfReachabilities _ P = ⊥
 
+-- the answers are those about the rules of an ignore file, and P of them
+abbrev pub IfRules : Option Object → (RuleAnswers → Type 0) → Type 0
+IfRules (Some (Answered (answers.Rules all))) P = P all
+IfRules _ P = ⊥
+
 -- The object is a glob, and the answer tells whether the others cover it.
 unfoldable pub AnswersCovering : Object → List GlobValue → Domain → ℕ → Option Object → Type 0
 AnswersCovering o by domain limit answer = IfGlob (Some o) (λ g. IfCoverage answer (TellsCovering g by domain limit))
@@ -65,11 +77,23 @@ unfoldable pub AnswersUnreachable : List GlobValue → Decides → Domain → �
 AnswersUnreachable globs decides domain limit answer = IfReachabilities answer (λ told. (i : ℕ) (g : GlobValue) (r : Reachability)
     → slice_get globs i ≡ Some g → slice_get told i ≡ Some r → TellsReachability globs g (rivals decides i (length globs)) domain limit r)
 
--- What an answer tells: a path; or that there is no such path, and the indexes of the globs that the answer names; or that the
--- search has more rows than its limit.
+-- There is an answer for each rule of an ignore file, given by its bytes. It tells whether the rule ever decides. The lines are those
+-- of the rules.
+pub record TellRules (ignore_case : Bool) (file : List ℕ) (domain : Domain) (limit : ℕ) (all : RuleAnswers) : Type 0 where
+  pub len : length all.told.items ≡ length (rules_of file)
+  pub each : (i : ℕ) (p : Pattern) (r : RuleReachability) → slice_get (patterns_of (rules_of file)) i ≡ Some p → slice_get all.told.items i ≡ Some r → TellsRule ignore_case (patterns_of (rules_of file)) i p domain limit r
+  pub lines : all.lines.items ≡ lines_of_rules (rules_of file)
+
+-- The object is a walk with a file of this index, and the answers tell which rules of the file ever decide.
+abbrev pub AnswersRules : Option Object → ℕ → Domain → ℕ → Option Object → Type 0
+AnswersRules o index domain limit answer = IfIgnore o (λ s. IsSomeAnd (file_at s index) (λ file. IfRules answer (TellRules s.ignore_case file domain limit)))
+
+-- What an answer tells: a path; or that there is no such path, and the indexes of the globs or rules that the answer names; or that
+-- such paths lie below ignored folders, and the index of a rule; or that the search has more rows than its limit.
 pub data Told : Type 0 where
   a_path : List ℕ → Told
   no_path : List ℕ → Told
+  below_ignored : List ℕ → Told
   limit_reached : Told
 
 abbrev pub told_coverage : Coverage → Told
@@ -87,14 +111,27 @@ told_reachability (reachability.Decides path) = a_path path.items
 told_reachability (reachability.Never indexes) = no_path indexes.items
 told_reachability reachability.Unknown = limit_reached
 
+abbrev pub told_rule_reachability : RuleReachability → Told
+told_rule_reachability (rule.Decides path) = a_path path.items
+told_rule_reachability (rule.Never indexes) = no_path indexes.items
+told_rule_reachability (rule.Hidden index) = below_ignored (index ∷ [])
+told_rule_reachability rule.Unknown = limit_reached
+
 -- what each of the answers tells
 abbrev pub told : Answers → List Told
 told (answers.Coverage c) = told_coverage c ∷ []
 told (answers.Intersection c) = told_intersection c ∷ []
 told (answers.Reachabilities all) = map told_reachability all.items
+told (answers.Rules all) = map told_rule_reachability all.told.items
+
+-- the number of the line of each rule, of answers about the rules of an ignore file
+abbrev pub lines_told : Answers → List ℕ
+lines_told (answers.Rules all) = all.lines.items
+lines_told _ = []
 
 -- what an answer tells that is read
 abbrev pub told_by : Answer → Told
 told_by (answer.Path path) = a_path path.now
 told_by (answer.NoPath indexes) = no_path indexes.now
+told_by (answer.BelowIgnored indexes) = below_ignored indexes.now
 told_by answer.Unknown = limit_reached

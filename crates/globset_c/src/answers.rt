@@ -1,22 +1,32 @@
-//! Answers to questions about globs.
+//! Answers to questions about globs and rules of ignore files.
 
 ghost use Rattle.std.specs.Prelude.{◌≡◌, ◌≢◌, ◌≤◌, ◌<◌, Some, None, [], ◌∷◌, IfSome, IsSome, MatchOption, length, map, slice_get};
 ghost use Rattle.globset_c.specs.Kinds.{IfAnswers, IsAnswers};
-ghost use Rattle.globset_c.specs.Relations.{told, told_by, told_coverage, told_intersection, told_reachability, a_path, no_path, limit_reached};
+ghost use Rattle.globset_c.specs.Relations.{lines_told, told, told_by, told_coverage, told_intersection, told_reachability, told_rule_reachability, a_path, below_ignored, no_path, limit_reached};
 ghost use Rattle.globset_c.specs.Statuses.{IsOneOf};
 
 use crate::indexes::Indexes;
 use crate::object::Object;
 use crate::owned::Owned;
-use crate::status::{BAD_INDEX, LIMIT_REACHED, NO, Status, WRONG_KIND, YES};
-use glob_relations::{Coverage, Intersection, Reachability};
+use crate::status::{BAD_INDEX, BELOW_IGNORED, DONE, LIMIT_REACHED, NO, Status, WRONG_KIND, YES};
+use glob_relations::{Coverage, Intersection, Reachability, RuleReachability};
+use std::slice;
 
-/// The answer to a question, or the answers to a question about each glob of a list.
+/// The answers to a question about each rule of an ignore file.
+#[derive(Drop)]
+pub struct RuleAnswers {
+    pub told: Vec<RuleReachability>,
+    /// The number of the line of each rule.
+    pub lines: Vec<usize>,
+}
+
+/// The answer to a question, or the answers to a question about each glob of a list or each rule of a file.
 #[derive(Drop)]
 pub enum Answers {
     Coverage(Coverage),
     Intersection(Intersection),
     Reachabilities(Vec<Reachability>),
+    Rules(RuleAnswers),
 }
 
 /// An answer that is read.
@@ -24,19 +34,21 @@ pub enum Answers {
 pub enum Answer<'a> {
     /// There is such a path.
     Path(&'a [u8]),
-    /// There is no such path, and the answer names the globs at these indexes.
+    /// There is no such path, and the answer names the globs or rules at these indexes.
     NoPath(&'a [usize]),
+    /// Such paths lie below ignored folders, and the answer names the rule at this index.
+    BelowIgnored(&'a [usize]),
     /// The search has more rows than its limit.
     Unknown,
 }
 
-/// Bytes that answers lend.
+/// Bytes that answers or a walk lend.
 #[repr(C)]
 pub struct Bytes<'a> {
     pub items: &'a [u8],
 }
 
-/// Lends what the answer of an index tells: a path, or the indexes of globs where there is no such path.
+/// Lends what the answer of an index tells: a path, or the indexes of globs or rules where there is no such path.
 #[unsafe(no_mangle)]
 pub extern "C" fn globset_raw_answers_at<'a>(
     answers: &'a mut Owned,
@@ -49,15 +61,19 @@ pub extern "C" fn globset_raw_answers_at<'a>(
         slice_get (told all) index ≡ Some (a_path path.new.items.now)) }
     ensures no { result ≡ NO → IfAnswers answers.old.object (λ all.
         slice_get (told all) index ≡ Some (no_path indexes.new.items.now)) }
+    ensures below { result ≡ BELOW_IGNORED → IfAnswers answers.old.object (λ all.
+        slice_get (told all) index ≡ Some (below_ignored indexes.new.items.now)) }
     ensures limit { result ≡ LIMIT_REACHED
         → IfAnswers answers.old.object (λ all. slice_get (told all) index ≡ Some limit_reached) }
     ensures bad_index { result ≡ BAD_INDEX
         → IfAnswers answers.old.object (λ all. length (told all) ≤ index) }
     ensures empty_without_path { result ≢ YES → path.new.items.now ≡ [] }
-    ensures empty_without_indexes { result ≢ NO → indexes.new.items.now ≡ [] }
+    ensures empty_without_indexes { result ≢ NO → result ≢ BELOW_IGNORED
+        → indexes.new.items.now ≡ [] }
     ensures right_kind { IsAnswers answers.old.object → result ≢ WRONG_KIND }
     ensures other_kind { ¬ (IsAnswers answers.old.object) → result ≡ WRONG_KIND }
-    ensures statuses { IsOneOf (NO ∷ YES ∷ WRONG_KIND ∷ LIMIT_REACHED ∷ BAD_INDEX ∷ []) result }
+    ensures statuses { IsOneOf
+        (NO ∷ YES ∷ WRONG_KIND ∷ LIMIT_REACHED ∷ BAD_INDEX ∷ BELOW_IGNORED ∷ []) result }
 {
     path.items = &[];
     indexes.items = &[];
@@ -73,8 +89,44 @@ pub extern "C" fn globset_raw_answers_at<'a>(
             indexes.items = numbers;
             NO
         }
+        Some(Answer::BelowIgnored(numbers)) => {
+            indexes.items = numbers;
+            BELOW_IGNORED
+        }
         Some(Answer::Unknown) => LIMIT_REACHED,
         None => BAD_INDEX,
+    }
+}
+
+/// Lends the number of the line of each rule, of answers about the rules of an ignore file. Other answers have none.
+#[unsafe(no_mangle)]
+pub extern "C" fn globset_raw_answers_lines<'a>(
+    answers: &'a mut Owned,
+    lines: &mut Indexes<'a>,
+) -> Status
+    requires owned { IsSome answers.old.object }
+    ensures lines { result ≡ DONE
+        → IfAnswers answers.old.object (λ all. lines.new.items.now ≡ lines_told all) }
+    ensures empty_after_errors { result ≢ DONE → lines.new.items.now ≡ [] }
+    ensures right_kind { IsAnswers answers.old.object → result ≢ WRONG_KIND }
+    ensures other_kind { ¬ (IsAnswers answers.old.object) → result ≡ WRONG_KIND }
+    ensures statuses { IsOneOf (DONE ∷ WRONG_KIND ∷ []) result }
+{
+    lines.items = &[];
+    let Some(all) = answers_in(answers.as_mut()) else {
+        return WRONG_KIND;
+    };
+    lines.items = lines_of(all);
+    DONE
+}
+
+/// Returns the number of the line of each rule. Other answers have none.
+fn lines_of(answers: &Answers) -> &[usize]
+    ensures { result.now ≡ lines_told answers.now }
+{
+    match answers {
+        Answers::Rules(rules) => &rules.lines,
+        _ => &[],
     }
 }
 
@@ -97,6 +149,7 @@ fn answer_at(answers: &Answers, index: usize) -> Option<Answer>
         Answers::Coverage(coverage) => only(index, read_coverage(coverage)),
         Answers::Intersection(intersection) => only(index, read_intersection(intersection)),
         Answers::Reachabilities(all) => reachability_at(all, index),
+        Answers::Rules(rules) => rule_at(&rules.told, index),
     }
 }
 
@@ -114,6 +167,14 @@ fn reachability_at(all: &[Reachability], index: usize) -> Option<Answer>
         (λ answer. slice_get (map told_reachability all.now) index ≡ Some (told_by answer)) }
 {
     Some(read_reachability(all.get(index)?))
+}
+
+#[tactic(auto, using(crate::proofs::Told::rule_told_at, crate::proofs::Told::no_rule_told_past))]
+fn rule_at(all: &[RuleReachability], index: usize) -> Option<Answer>
+    ensures { MatchOption result (length (map told_rule_reachability all.now) ≤ index)
+        (λ answer. slice_get (map told_rule_reachability all.now) index ≡ Some (told_by answer)) }
+{
+    Some(read_rule(all.get(index)?))
 }
 
 fn read_coverage(coverage: &Coverage) -> Answer
@@ -143,5 +204,16 @@ fn read_reachability(reachability: &Reachability) -> Answer
         Reachability::Decides(path) => Answer::Path(path),
         Reachability::Never(indexes) => Answer::NoPath(indexes),
         Reachability::Unknown => Answer::Unknown,
+    }
+}
+
+fn read_rule(reachability: &RuleReachability) -> Answer
+    ensures { told_by result ≡ told_rule_reachability reachability.now }
+{
+    match reachability {
+        RuleReachability::Decides(path) => Answer::Path(path),
+        RuleReachability::Never(indexes) => Answer::NoPath(indexes),
+        RuleReachability::Hidden(index) => Answer::BelowIgnored(slice::from_ref(index)),
+        RuleReachability::Unknown => Answer::Unknown,
     }
 }

@@ -1,7 +1,6 @@
 //! Whether a path is ignored, and by which rule.
 
-ghost use Rattle.std.specs.Prelude.{◌≡◌, ◌≢◌, ◌≤◌, ◌<◌, ◌↔◌, Some, None, [], ◌∷◌, IfSome, IsSome, IsTrue, MatchOption, false, length, true};
-ghost use Rattle.git_ignore.specs.StackValue.{stack_files, stack_rule};
+ghost use Rattle.std.specs.Prelude.{◌≡◌, ◌≢◌, Some, [], ◌∷◌, IsSome, false, true};
 ghost use Rattle.globset_c.specs.Ignoring.{IsDecideBy, decide_by, file_told, ignores, line_told, rule_for};
 ghost use Rattle.globset_c.specs.Kinds.{IfIgnore, IsIgnore};
 ghost use Rattle.globset_c.specs.Statuses.{IsOneOf};
@@ -131,44 +130,5 @@ pub fn decide_by(number: u32) -> DecideBy
         0 => DecideBy::Git,
         1 => DecideBy::Nearest,
         _ => DecideBy::PathAlone,
-    }
-}
-
-/// Lends the numbers of the lines of an ignore file that git cannot read.
-#[unsafe(no_mangle)]
-pub extern "C" fn globset_raw_ignore_unread_lines<'a>(
-    ignore: &'a mut Owned,
-    file: usize,
-    lines: &mut Indexes<'a>,
-) -> Status
-    requires owned { IsSome ignore.old.object }
-    ensures done { result ≡ DONE → IfIgnore ignore.old.object (λ s. file < length (stack_files s)) }
-    ensures bad_index { result ≡ BAD_INDEX
-        → IfIgnore ignore.old.object (λ s. length (stack_files s) ≤ file) }
-    ensures empty_after_errors { result ≢ DONE → lines.new.items.now ≡ [] }
-    ensures right_kind { IsIgnore ignore.old.object → result ≢ WRONG_KIND }
-    ensures other_kind { ¬ (IsIgnore ignore.old.object) → result ≡ WRONG_KIND }
-    ensures statuses { IsOneOf (DONE ∷ BAD_INDEX ∷ WRONG_KIND ∷ []) result }
-{
-    lines.items = &[];
-    let Some(stack) = stack_in(ignore.as_mut()) else {
-        return WRONG_KIND;
-    };
-    match stack.unread_lines(file) {
-        Some(numbers) => {
-            lines.items = numbers;
-            DONE
-        }
-        None => BAD_INDEX,
-    }
-}
-
-fn stack_in(object: &mut Object) -> Option<&IgnoreStack>
-    ensures some { IfSome result (λ stack. IfIgnore (Some object.old) (λ s. stack.now ≡ s)) }
-    ensures none { result ≡ None → ¬ (IsIgnore (Some object.old)) }
-{
-    match object {
-        Object::Ignore(stack) => Some(stack),
-        _ => None,
     }
 }

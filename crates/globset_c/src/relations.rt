@@ -221,14 +221,14 @@ fn copies_of(alloc: Global, globs: &mut [Lent]) -> Result<Vec<Glob>, AllocError>
 }
 
 /// Returns whether the number stands for a domain.
-fn is_domain(number: u32) -> bool
+pub fn is_domain(number: u32) -> bool
     ensures { IsTrue result ↔ IsDomain number }
 {
     number < 2
 }
 
 /// Returns the domain that the number stands for.
-fn domain_of(number: u32) -> Domain
+pub fn domain_of(number: u32) -> Domain
     ensures { result ≡ domain_of number }
 {
     if number == 0 {

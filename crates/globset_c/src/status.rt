@@ -36,5 +36,8 @@ pub const TOO_SMALL: Status = 9;
 /// A search has more rows than its limit.
 pub const LIMIT_REACHED: Status = 10;
 
-/// There is no answer of this index.
+/// There is no answer, ignore file or line of this index.
 pub const BAD_INDEX: Status = 11;
+
+/// Each path about which a rule decides alone lies below an ignored folder.
+pub const BELOW_IGNORED: Status = 12;

@@ -112,6 +112,74 @@ static void unread_lines(void) {
     raw_ignore_free(ignore);
 }
 
+/* Texts of lines, as `git check-ignore -v` prints them. */
+static void line_texts(void) {
+    static const struct {
+        size_t file, line;
+        const char *text;
+    } rows[] = {
+        {0, 1, "*.o"}, {0, 2, ""},   {0, 3, "# a b"}, {0, 4, "!a\\ "},     {0, 5, ""},
+        {0, 6, NULL},  {0, 0, NULL}, {1, 1, "\xff"},  {0, SIZE_MAX, NULL}, {1, 2, NULL},
+        {2, 1, ""},    {2, 2, NULL}, {3, 1, NULL},    {SIZE_MAX, 1, NULL},
+    };
+    raw_ignore ignore = ignore_of("\xef\xbb\xbf*.o  \r\n\n# a b\n!a\\ \n", 0);
+    globset_bytes text;
+    CHECK(raw_ignore_add_file(&ignore, TEXT("\xff")) == GLOBSET_DONE);
+    CHECK(raw_ignore_add_file(&ignore, NULL, 0) == GLOBSET_DONE);
+    for (size_t i = 0; i < sizeof rows / sizeof *rows; i++) {
+        globset_status status = raw_ignore_line_text(&ignore, rows[i].file, rows[i].line, &text);
+        CHECK(status == (rows[i].text == NULL ? GLOBSET_BAD_INDEX : GLOBSET_DONE));
+        const char *wanted = rows[i].text == NULL ? "" : rows[i].text;
+        CHECK(text.count == strlen(wanted) && memcmp(text.at, wanted, text.count) == 0);
+    }
+    raw_ignore_free(ignore);
+}
+
+/* Which rules of a file never decide. The walk is freed first. */
+static void unreachable_rules(void) {
+    raw_ignore ignore = ignore_of("x", 0), upper = ignore_of("A\na\n", GLOBSET_IGNORE_CASE);
+    raw_answers told, at_limit, none, nested, any_case;
+    globset_bytes path;
+    globset_indexes indexes, lines;
+    CHECK(raw_ignore_add_file(&ignore, TEXT("a[!b]\n#\na[a-z]\n[\n\nb\na[!a-z]\n!b\nc/\nc\n")) == GLOBSET_DONE);
+    CHECK(raw_ignore_add_file(&ignore, NULL, 0) == GLOBSET_DONE);
+    CHECK(raw_ignore_add_file(&ignore, TEXT("out/\n!/out/a\n")) == GLOBSET_DONE);
+    CHECK(raw_ignore_unreachable(&ignore, 1, GLOBSET_RELATIVE_PATHS, 1000, &told) == GLOBSET_DONE);
+    CHECK(raw_ignore_unreachable(&ignore, 1, GLOBSET_ALL_PATHS, 0, &at_limit) == GLOBSET_DONE);
+    CHECK(raw_ignore_unreachable(&ignore, 2, GLOBSET_ALL_PATHS, 1000, &none) == GLOBSET_DONE);
+    CHECK(raw_ignore_unreachable(&ignore, 3, GLOBSET_RELATIVE_PATHS, 1000, &nested) == GLOBSET_DONE);
+    CHECK(raw_ignore_unreachable(&upper, 0, GLOBSET_RELATIVE_PATHS, 1000, &any_case) == GLOBSET_DONE);
+    raw_ignore_free(ignore);
+    raw_ignore_free(upper);
+    static const size_t numbers[7] = {1, 3, 6, 7, 8, 9, 10};
+    CHECK(raw_answers_lines(&told, &lines) == GLOBSET_DONE && lines.count == 7);
+    CHECK(memcmp(lines.at, numbers, sizeof numbers) == 0);
+    CHECK(raw_answers_at(&told, 0, &path, &indexes) == GLOBSET_NO && path.count == 0 && indexes.count == 2);
+    CHECK(indexes.at[0] + indexes.at[1] == 4 && (indexes.at[0] == 1 || indexes.at[0] == 3));
+    CHECK(raw_answers_at(&told, 1, &path, &indexes) == GLOBSET_YES && indexes.count == 0 && path.count == 2);
+    CHECK(path.at[0] == 'a' && path.at[1] >= 'a' && path.at[1] <= 'z');
+    CHECK(raw_answers_at(&told, 2, &path, &indexes) == GLOBSET_NO && indexes.count == 1 && indexes.at[0] == 4);
+    CHECK(raw_answers_at(&told, 4, &path, &indexes) == GLOBSET_YES && path.count == 1 && path.at[0] == 'b');
+    CHECK(raw_answers_at(&told, 5, &path, &indexes) == GLOBSET_NO && indexes.count == 1 && indexes.at[0] == 6);
+    CHECK(raw_answers_at(&told, 6, &path, &indexes) == GLOBSET_YES && path.count == 1 && path.at[0] == 'c');
+    CHECK(raw_answers_at(&told, 7, &path, &indexes) == GLOBSET_BAD_INDEX && path.count + indexes.count == 0);
+    CHECK(raw_answers_lines(&at_limit, &lines) == GLOBSET_DONE && lines.count == 7);
+    for (size_t i = 0; i < 7; i++)
+        CHECK(raw_answers_at(&at_limit, i, &path, &indexes) == GLOBSET_LIMIT_REACHED &&
+              path.count + indexes.count == 0);
+    CHECK(raw_answers_lines(&none, &lines) == GLOBSET_DONE && lines.count == 0);
+    CHECK(raw_answers_at(&none, 0, &path, &indexes) == GLOBSET_BAD_INDEX);
+    CHECK(raw_answers_at(&nested, 0, &path, &indexes) == GLOBSET_YES && path.count == 3);
+    CHECK(raw_answers_at(&nested, 1, &path, &indexes) == GLOBSET_BELOW_IGNORED && path.count == 0);
+    CHECK(indexes.count == 1 && indexes.at[0] == 0);
+    CHECK(raw_answers_at(&any_case, 0, &path, &indexes) == GLOBSET_NO && indexes.count == 1 && indexes.at[0] == 1);
+    raw_answers_free(told);
+    raw_answers_free(at_limit);
+    raw_answers_free(none);
+    raw_answers_free(nested);
+    raw_answers_free(any_case);
+}
+
 /* Numbers that stand for nothing, which are looked at first, and objects of another kind. */
 static void refused(void) {
     raw_ignore none = {{&none}}, ignore = ignore_of("a", 0);
@@ -119,6 +187,8 @@ static void refused(void) {
     raw_ignore glob_as_ignore = {glob.object};
     raw_searcher ignore_as_searcher = {ignore.object};
     raw_set ignore_as_set = {ignore.object};
+    raw_answers no_answers = {{&no_answers}};
+    globset_bytes text;
     globset_indexes lines;
     uint8_t answer = 7;
     globset_told_rule rule = {7, 7, 7};
@@ -139,6 +209,13 @@ static void refused(void) {
     CHECK(raw_ignore_rules_many(&glob_as_ignore, TEXT("a"), &wrong_end, 1, 0, &rule) == GLOBSET_BAD_ENDS);
     CHECK(raw_ignore_rules_many(&glob_as_ignore, TEXT("a"), &end, 1, 0, &rule) == GLOBSET_WRONG_KIND && rule.line == 7);
     CHECK(raw_ignore_unread_lines(&glob_as_ignore, 0, &lines) == GLOBSET_WRONG_KIND && lines.count == 0);
+    CHECK(raw_ignore_line_text(&glob_as_ignore, 0, 1, &text) == GLOBSET_WRONG_KIND && text.count == 0);
+    for (uint32_t wrong = 2; wrong != 0; wrong *= 2)
+        CHECK(raw_ignore_unreachable(&glob_as_ignore, 0, wrong, 9, &no_answers) == GLOBSET_UNKNOWN_OPTION);
+    CHECK(raw_ignore_unreachable(&glob_as_ignore, 1, 0, 9, &no_answers) == GLOBSET_WRONG_KIND);
+    CHECK(raw_ignore_unreachable(&ignore, 1, 0, 9, &no_answers) == GLOBSET_BAD_INDEX);
+    CHECK(raw_ignore_unreachable(&ignore, SIZE_MAX, 0, 9, &no_answers) == GLOBSET_BAD_INDEX);
+    CHECK(no_answers.object.at == &no_answers);
     CHECK(glob_as_ignore.object.at == glob.object.at);
     CHECK(raw_searcher_is_match(&ignore_as_searcher, TEXT("a")) == GLOBSET_WRONG_KIND);
     CHECK(raw_searcher_new(ignore_as_set, &ignore_as_searcher) == GLOBSET_WRONG_KIND);
@@ -153,6 +230,8 @@ int main(void) {
     many();
     rules_many();
     unread_lines();
+    line_texts();
+    unreachable_rules();
     refused();
     puts("ignore: passed");
     return 0;

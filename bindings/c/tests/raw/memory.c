@@ -172,6 +172,8 @@ static void try_ignore(void) {
     uint8_t answers[2] = {7, 7};
     globset_told_rule rules[2] = {{7, 7, 7}, {7, 7, 7}};
     raw_ignore ignore = {{&ignore}};
+    raw_answers rules_told = {{&rules_told}};
+    globset_bytes text;
     globset_indexes lines;
     size_t file = 7, line = 7;
     TRY(raw_ignore_new(0, &ignore), GLOBSET_DONE, CHECK(blocks == before && ignore.object.at == &ignore));
@@ -190,11 +192,17 @@ static void try_ignore(void) {
     TRY(raw_ignore_rules_many(&ignore, TEXT("about/"), ends, 2, 0, rules), GLOBSET_DONE,
         CHECK(rules[0].line == 7 && rules[1].line == 7));
     CHECK(rules[0].line == 3 && rules[1].line == 4);
+    TRY(raw_ignore_unreachable(&ignore, 0, GLOBSET_RELATIVE_PATHS, 1000, &rules_told), GLOBSET_DONE,
+        CHECK(blocks == before && rules_told.object.at == &rules_told));
     left = 0;
+    CHECK(raw_answers_lines(&rules_told, &lines) == GLOBSET_DONE && lines.count == 3 && lines.at[2] == 4);
+    CHECK(raw_answers_at(&rules_told, 2, &text, &lines) == GLOBSET_YES && text.count == 3);
+    CHECK(raw_ignore_line_text(&ignore, 0, 2, &text) == GLOBSET_DONE && text.count == 2 && text.at[0] == '[');
     CHECK(raw_ignore_unread_lines(&ignore, 0, &lines) == GLOBSET_DONE && lines.count == 1 && lines.at[0] == 2);
     CHECK(raw_ignore_leave(&ignore) == GLOBSET_DONE);
     CHECK(raw_ignore_unread_lines(&ignore, 1, &lines) == GLOBSET_BAD_INDEX && lines.count == 0);
     left = -1;
+    raw_answers_free(rules_told);
     raw_ignore_free(ignore);
 }
 

@@ -271,6 +271,13 @@ static inline globset_status raw_answers_at(raw_answers *answers, size_t index, 
     return globset_raw_answers_at(&answers->object, index, path, indexes);
 }
 
+/* Reads lines into a place that had something else before. */
+static inline globset_status raw_answers_lines(raw_answers *answers, globset_indexes *lines) {
+    lines->at = raw_no_indexes;
+    lines->count = 1;
+    return globset_raw_answers_lines(&answers->object, lines);
+}
+
 static inline void raw_answers_free(raw_answers answers) { globset_raw_free(answers.object); }
 
 static inline globset_status raw_ignore_new(uint32_t options, raw_ignore *out) {
@@ -312,6 +319,17 @@ static inline globset_status raw_ignore_unread_lines(raw_ignore *ignore, size_t 
     lines->at = raw_no_indexes;
     lines->count = 1;
     return globset_raw_ignore_unread_lines(&ignore->object, file, lines);
+}
+
+static inline globset_status raw_ignore_line_text(raw_ignore *ignore, size_t file, size_t line, globset_bytes *text) {
+    text->at = (const uint8_t *)raw_no_indexes;
+    text->count = 1;
+    return globset_raw_ignore_line_text(&ignore->object, file, line, text);
+}
+
+static inline globset_status raw_ignore_unreachable(raw_ignore *ignore, size_t file, uint32_t domain, size_t limit,
+                                                    raw_answers *out) {
+    return globset_raw_ignore_unreachable(&ignore->object, file, domain, limit, &out->object);
 }
 
 static inline raw_glob glob_of(const char *text, uint32_t options) {

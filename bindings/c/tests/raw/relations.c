@@ -109,6 +109,7 @@ static void never(void) {
     CHECK(raw_unreachable(globs, 0, GLOBSET_LAST_DECIDES, GLOBSET_ALL_PATHS, LIMIT, &none) == GLOBSET_DONE);
     CHECK(raw_unreachable(globs, COUNT, GLOBSET_FIRST_DECIDES, GLOBSET_ALL_PATHS, 0, &at_limit) == GLOBSET_DONE);
     for (size_t i = 0; i < COUNT; i++) raw_glob_free(globs[i]);
+    CHECK(raw_answers_lines(&last, &indexes) == GLOBSET_DONE && indexes.count == 0);
     CHECK(raw_answers_at(&last, 0, &path, &indexes) == GLOBSET_NO && path.count == 0 && indexes.count == 2);
     CHECK(indexes.at[0] + indexes.at[1] == 4 && (indexes.at[0] == 1 || indexes.at[0] == 3));
     CHECK(raw_answers_at(&last, 1, &path, &indexes) == GLOBSET_YES && indexes.count == 0 && path.count == 2);
@@ -151,6 +152,7 @@ static void refused(void) {
     CHECK(raw_unreachable(globs, 2, 0, 0, LIMIT, &none) == GLOBSET_WRONG_KIND && none.object.at == &none);
     CHECK(raw_answers_at(&glob_as_answers, 0, &path, &indexes) == GLOBSET_WRONG_KIND);
     CHECK(path.count == 0 && indexes.count == 0 && glob_as_answers.object.at == glob.object.at);
+    CHECK(raw_answers_lines(&glob_as_answers, &indexes) == GLOBSET_WRONG_KIND && indexes.count == 0);
     CHECK(raw_covering(glob, globs, 1, 0, LIMIT, &told) == GLOBSET_DONE);
     const void *at = told.object.at;
     raw_searcher told_as_searcher = {told.object};
