@@ -2,7 +2,8 @@
 
 use crate::lines::Lines;
 use crate::text_file::TextFile;
-use ignore_pattern::{IgnorePattern, pattern_of_line};
+use git_ignore::{RulePatterns, rule_patterns};
+use ignore_pattern::IgnorePattern;
 use std::alloc::{AllocError, Global};
 
 /// The names that ignore files have.
@@ -34,21 +35,16 @@ impl Drop for IgnoreRules<'_> {
 impl<'t> IgnoreRules<'t> {
     /// Reads an ignore file. A line that git cannot read has no rule.
     pub fn read(alloc: Global, file: &'t TextFile) -> Result<IgnoreRules<'t>, AllocError> {
-        let mut read = IgnoreRules {
-            rules: Vec::new(alloc),
-            patterns: Vec::new(alloc),
-        };
+        let RulePatterns { patterns, lines } = rule_patterns(alloc, file.bytes())?;
+        let mut rules = Vec::new(alloc);
         for (i, line) in Lines::new(file.text(), b'\n').enumerate() {
-            if let Some(pattern) = pattern_of_line(alloc, line)? {
+            let number = i.saturating_add(1);
+            if lines.get(rules.len()) == Some(&number) {
                 let text = line.strip_suffix(b"\r").unwrap_or(line);
-                read.rules.push(IgnoreRule {
-                    line: i.saturating_add(1),
-                    text,
-                })?;
-                read.patterns.push(pattern)?;
+                rules.push(IgnoreRule { line: number, text })?;
             }
         }
-        Ok(read)
+        Ok(IgnoreRules { rules, patterns })
     }
 }
 
