@@ -1,8 +1,6 @@
 """Lists of globs that are chosen against one structure, and ordinary lists of the same number and size."""
 
 import collections
-import functools
-import itertools
 import random
 
 import colliding_keys
@@ -86,30 +84,12 @@ def code(index, alphabet=LETTERS, length=4):
     return "".join(alphabet[index // len(alphabet) ** at % len(alphabet)] for at in range(length))
 
 
-def apart(index):
-    """The letters of a code between single characters, so that no three of them follow each other."""
-    return "".join("?" + letter for letter in code(index))
-
-
 def nesting(count):
     return max(1, min(LONGEST_NESTED, NESTED_BYTES // count))
 
 
 def nested(index, count):
     return code(index // nesting(count)) + "a" * (index % nesting(count))
-
-
-@functools.lru_cache(maxsize=None)
-def chained_windows(count):
-    """Four letters whose keys have the first places of a filter of so many globs, which hashes them by a multiplication."""
-    windows = ("".join(each) for each in itertools.product(LETTERS, repeat=4))
-    by_hash = sorted(windows, key=lambda each: int.from_bytes(each.encode(), "big") * 2_654_435_761 % (1 << 32))
-    return by_hash[: max(8, len(by_hash) // (3 * count))]
-
-
-def chained(index, count):
-    windows = chained_windows(count)
-    return windows[index % len(windows)]
 
 
 SHARED = 24
@@ -155,19 +135,7 @@ OTHERS = {
         lambda index, _: word(index, len(code(index, CHARACTERS, 3).encode())) + "*",
         lambda index, _: word(index, len(code(index, CHARACTERS, 3).encode())) + "/x.rs",
     ),
-    "filter, one window": shapes(
-        lambda index, _: "*zqxj" + apart(index) + "*",
-        lambda index, _: "src/zqxj" + apart(index).replace("?", "_") + ".rs",
-        lambda index, _: "*" + word(index, 4) + apart(index) + "*",
-        lambda index, _: "src/" + word(index, 4) + apart(index).replace("?", "_") + ".rs",
-    ),
-    "filter, windows in one chain": shapes(
-        lambda index, count: "*" + chained(index, count) + apart(index) + "*",
-        lambda index, count: "".join(chained(index + at, count) for at in range(8)),
-        lambda index, _: "*" + word(index, 4) + apart(index) + "*",
-        lambda index, _: word(index, 4) + word(index + 1, 28),
-    ),
-    "determinizer, many sets": shapes(
+    "lazy DFA, many sets": shapes(
         lambda index, _: f"*a????????.e{index}",
         lambda index, _: f"{code(index, 'ab', 18)}{code(index, 'ba', 18)}.e{index}",
         lambda index, _: f"*{word(index, 9)}.e{index}",
