@@ -5,7 +5,7 @@ use Rattle.std.specs.List.{list_all}
 use Rattle.std.specs.Option.{option_map}
 use Rattle.ignore_pattern.specs.Ends.{begins_with, without_first}
 use Rattle.ignore_pattern.specs.Lines.{file_lines, line_text}
-use Rattle.ignore_pattern.specs.Patterns.{Pattern, pattern_of_line, pattern_matches}
+use Rattle.ignore_pattern.specs.Patterns.{Pattern, pattern_of_line, applies}
 use Rattle.git_ignore.specs.declared.decision.Decision.{Decision}
 use Rattle.git_ignore.specs.declared.decision.Decision.TheVariants.{Ignored, Kept, Undecided}
 use Rattle.git_ignore.specs.declared.decision.DecidingRule.{DecidingRule}
@@ -57,16 +57,11 @@ line_at lines (suc k) = slice_get lines k
 unfoldable pub line_text_at : List ℕ → ℕ → Option (List ℕ)
 line_text_at file number = option_map line_text (line_at (file_lines file) number)
 
--- The rule applies to the path, of a folder or of something else: it matches the path, which has to be a folder if the rule is
--- for folders alone.
-abbrev pub applies : Bool → List ℕ → Bool → Rule → Bool
-applies ignore_case path is_folder rule = (is_folder || not rule.pattern.folders_only) && pattern_matches ignore_case rule.pattern path
-
 -- the last rule that applies
 abbrev pub last_rule : Bool → List ℕ → Bool → List Rule → Option Rule
 last_rule ignore_case path is_folder [] = None
 last_rule ignore_case path is_folder (rule ∷ rules) = elim (last_rule ignore_case path is_folder rules)
-    [ Some last ↦ Some last | None ↦ if applies ignore_case path is_folder rule then Some rule else None ]
+    [ Some last ↦ Some last | None ↦ if applies ignore_case rule.pattern path is_folder then Some rule else None ]
 
 -- The rule that decides, as calls return it: the index of its file, the number of its line, and whether it is negated.
 abbrev pub told : ℕ → Option Rule → Option DecidingRule

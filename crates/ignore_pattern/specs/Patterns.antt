@@ -1,6 +1,6 @@
 -- The pattern that git reads a line of an ignore file as, by gitignore(5), and the paths that it matches. A path is that of a file
 -- or folder below the folder of the ignore file, from there on.
-use Rattle.std.specs.Prelude.{ℕ, zero, Bool, ◌==◌, List, [], ◌∷◌, Option, Some, None, if◌then◌else◌}
+use Rattle.std.specs.Prelude.{ℕ, zero, Bool, ◌==◌, ◌&&◌, ◌||◌, not, List, [], ◌∷◌, Option, Some, None, if◌then◌else◌}
 use Rattle.std.specs.List.{list_any}
 use Rattle.ignore_pattern.specs.Ends.{begins_with, without_first, ends_with, without_last}
 use Rattle.ignore_pattern.specs.Lines.{line_text}
@@ -57,3 +57,8 @@ last_component (c ∷ cs) = if has_slash (c ∷ cs) then last_component cs else 
 -- checks whether the pattern is for folders alone.
 unfoldable pub pattern_matches : Bool → Pattern → List ℕ → Bool
 pattern_matches ignore_case p path = elements_match ignore_case p.elements (if p.whole then path else last_component path)
+
+-- The rule of the pattern applies to the path, of a folder or of something else: the pattern matches the path, which has to be a
+-- folder if the pattern is for folders alone.
+abbrev pub applies : Bool → Pattern → List ℕ → Bool → Bool
+applies ignore_case p path is_folder = (is_folder || not p.folders_only) && pattern_matches ignore_case p path

@@ -10,8 +10,8 @@ use Rattle.bit_sets.specs.declared.index_set.IndexSet.{IndexSet}
 use Rattle.byte_nfa.specs.Steps.{IsReached, NfaValue}
 use Rattle.glob_matching.specs.Matching.{AddsReached}
 use Rattle.ignore_pattern.specs.Automata.{IsAutomatonOf, SomeAbove, above_index, matches_at}
-use Rattle.ignore_pattern.specs.Patterns.{Pattern, pattern_matches}
-use Rattle.git_ignore.specs.Rules.{Rule, applies, last_rule, patterns_of, told, deciding_rule, rules_of}
+use Rattle.ignore_pattern.specs.Patterns.{Pattern, pattern_matches, applies}
+use Rattle.git_ignore.specs.Rules.{Rule, last_rule, patterns_of, told, deciding_rule, rules_of}
 use Rattle.git_ignore.specs.declared.entry.RuleEntry.{RuleEntry}
 use Rattle.git_ignore.specs.inner.Entries.{is_for, entry_of, entry_of_rule, told_of, chosen, last_found, rule_at, entries_of, ArePartsOf, AreStored}
 
@@ -36,11 +36,11 @@ or_later true c x y o = refl
 or_later false c x y o = refl
 
 last_rule_more : (c : Bool) (path : List ℕ) (is_folder : Bool) (rules : List Rule) (r : Rule)
-    → last_rule c path is_folder (rules ++ r ∷ []) ≡ (if applies c path is_folder r then Some r else last_rule c path is_folder rules)
+    → last_rule c path is_folder (rules ++ r ∷ []) ≡ (if applies c r.pattern path is_folder then Some r else last_rule c path is_folder rules)
 last_rule_more c path f [] r = refl
 last_rule_more c path f (q ∷ rules) r =
-    ap (λ (o : Option Rule). elim o as (λ _. Option Rule) [ Some last ↦ Some last | None ↦ if applies c path f q then Some q else None ]) (last_rule_more c path f rules r)
-    ∙ or_later (applies c path f r) (applies c path f q) r q (last_rule c path f rules)
+    ap (λ (o : Option Rule). elim o as (λ _. Option Rule) [ Some last ↦ Some last | None ↦ if applies c q.pattern path f then Some q else None ]) (last_rule_more c path f rules r)
+    ∙ or_later (applies c r.pattern path f) (applies c q.pattern path f) r q (last_rule c path f rules)
 
 -- the line was read, and its rule added
 pub line_added : (done : List Rule) (ps qs : List Pattern) (es ds : List RuleEntry) (n : ℕ) (p : Pattern) (o : Option Pattern)
