@@ -8,7 +8,6 @@ pub mod Rows
 pub mod Walks
 pub mod Automata
 pub mod Told
-pub mod Patterns
 pub mod Rivals
 pub mod Finding
 pub mod Hiding

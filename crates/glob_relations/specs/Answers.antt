@@ -1,8 +1,9 @@
--- Answers about globs: whether a glob is covered by others, and whether two match a path in common.
+-- Answers about globs, and about patterns of ignore files: whether one is covered by others, and whether two globs match a path in
+-- common. Both are items here, and `matches` says which paths an item matches. A pattern matches whether it is negated or not, and
+-- whether it is for folders alone or not.
 use Rattle.std.specs.Prelude.{ℕ, Bool, List, [], ◌∷◌, IsTrue, IsFalse}
 use Rattle.std.specs.List.{list_any}
 use Rattle.byte_nfa.specs.Steps.{NfaValue}
-use Rattle.glob_strategy.specs.IndexedTokens.{IsFor}
 use Rattle.glob_text.specs.GlobMatches.{GlobValue, glob_matches}
 use Rattle.glob_relations.specs.Domains.{IsIn}
 use Rattle.glob_relations.specs.Shortest.{IsShortest}
@@ -11,27 +12,27 @@ use Rattle.glob_relations.specs.declared.relations.Coverage.{Coverage}
 use Rattle.glob_relations.specs.declared.relations.Coverage.TheVariants.{Covered, Not, Unknown}
 use Rattle.glob_relations.specs.declared.relations.Intersection.{Intersection}
 use Rattle.glob_relations.specs.declared.relations.Intersection.TheVariants.{Disjoint, Both, Unknown as Undecided}
-use Rattle.glob_relations.specs.inner.Automata.{indexed_glob, indexed_globs}
+use Rattle.glob_relations.specs.inner.Automata.{IsFor, under}
 use Rattle.glob_relations.specs.inner.Rows.{HasMoreRows}
 
--- some glob of the list matches the path
-abbrev pub some_match : List GlobValue → List ℕ → Bool
-some_match gs path = list_any (λ g. glob_matches g path) gs
+-- some item of the list matches the path
+abbrev pub some_match : {A : Type 0} → (A → List ℕ → Bool) → List A → List ℕ → Bool
+some_match matches xs path = list_any (λ x. matches x path) xs
 
--- each path of the domain that the glob matches is matched by some of the others
-abbrev pub IsCovered : GlobValue → List GlobValue → Domain → Type 0
-IsCovered g by domain = (path : List ℕ) → IsIn domain path → IsTrue (glob_matches g path) → IsTrue (some_match by path)
+-- each path of the domain that the item matches is matched by some of the others
+abbrev pub IsCovered : {A : Type 0} → (A → List ℕ → Bool) → A → List A → Domain → Type 0
+IsCovered matches x by domain = (path : List ℕ) → IsIn domain path → IsTrue (matches x path) → IsTrue (some_match matches by path)
 
--- the path is in the domain, the glob matches it, and none of the others does
-abbrev pub IsMissed : GlobValue → List GlobValue → Domain → List ℕ → Type 0
-IsMissed g by domain path = IsIn domain path × IsTrue (glob_matches g path) × IsFalse (some_match by path)
+-- the path is in the domain, the item matches it, and none of the others does
+abbrev pub IsMissed : {A : Type 0} → (A → List ℕ → Bool) → A → List A → Domain → List ℕ → Type 0
+IsMissed matches x by domain path = IsIn domain path × IsTrue (matches x path) × IsFalse (some_match matches by path)
 
--- The answer is right: the glob is covered; or the path is a shortest path that the others miss; or paths lead to more than
--- `limit` different rows of an automaton for the globs.
-abbrev pub TellsCovering : GlobValue → List GlobValue → Domain → ℕ → Coverage → Type 0
-TellsCovering g by domain limit Covered = IsCovered g by domain
-TellsCovering g by domain limit (Not path) = IsShortest (IsMissed g by domain) path.items
-TellsCovering g by domain limit Unknown = (m : NfaValue) × IsFor m (indexed_glob 0 g ∷ indexed_globs 1 by) × HasMoreRows m domain limit
+-- The answer is right: the item is covered; or the path is a shortest path that the others miss; or paths lead to more than
+-- `limit` different rows of an automaton for the items.
+abbrev pub TellsCovering : {A : Type 0} → (A → List ℕ → Bool) → A → List A → Domain → ℕ → Coverage → Type 0
+TellsCovering matches x by domain limit Covered = IsCovered matches x by domain
+TellsCovering matches x by domain limit (Not path) = IsShortest (IsMissed matches x by domain) path.items
+TellsCovering matches x by domain limit Unknown = (m : NfaValue) × IsFor matches ((x, 0) ∷ under 1 by) m × HasMoreRows m domain limit
 
 -- no path of the domain is matched by both globs
 abbrev pub AreDisjoint : GlobValue → GlobValue → Domain → Type 0
@@ -46,4 +47,4 @@ IsShared a b domain path = IsIn domain path × IsTrue (glob_matches a path) × I
 abbrev pub TellsOverlap : GlobValue → GlobValue → Domain → ℕ → Intersection → Type 0
 TellsOverlap a b domain limit Disjoint = AreDisjoint a b domain
 TellsOverlap a b domain limit (Both path) = IsShortest (IsShared a b domain) path.items
-TellsOverlap a b domain limit Undecided = (m : NfaValue) × IsFor m (indexed_glob 0 a ∷ indexed_glob 1 b ∷ []) × HasMoreRows m domain limit
+TellsOverlap a b domain limit Undecided = (m : NfaValue) × IsFor glob_matches ((a, 0) ∷ (b, 1) ∷ []) m × HasMoreRows m domain limit

@@ -9,11 +9,11 @@ use Rattle.glob_relations.specs.declared.domain.Domain.{Domain}
 
 -- A glob is covered by itself.
 abbrev pub CoversItself : Type 0
-CoversItself = (g : GlobValue) (domain : Domain) → IsCovered g (g ∷ []) domain
+CoversItself = (g : GlobValue) (domain : Domain) → IsCovered glob_matches g (g ∷ []) domain
 
 -- What some globs cover is covered by more globs.
 abbrev pub CoversWithMore : Type 0
-CoversWithMore = (g : GlobValue) (few many : List GlobValue) (domain : Domain) → ((h : GlobValue) → Contains few h → Contains many h) → IsCovered g few domain → IsCovered g many domain
+CoversWithMore = (g : GlobValue) (few many : List GlobValue) (domain : Domain) → ((h : GlobValue) → Contains few h → Contains many h) → IsCovered glob_matches g few domain → IsCovered glob_matches g many domain
 
 -- No path of the domain is matched by both of two disjoint globs.
 abbrev pub DisjointShareNone : Type 0
@@ -26,5 +26,5 @@ included gs = filter (λ g. not (excluded g)) gs
 -- If other globs of a set, which are not excluded, cover a glob of it, then the set without that glob matches the same paths of
 -- the domain.
 abbrev pub CoveredIsNotNeeded : Type 0
-CoveredIsNotNeeded = (before after : List GlobValue) (g : GlobValue) (domain : Domain) → IsCovered g (included (before ++ after)) domain → (path : List ℕ) → IsIn domain path
+CoveredIsNotNeeded = (before after : List GlobValue) (g : GlobValue) (domain : Domain) → IsCovered glob_matches g (included (before ++ after)) domain → (path : List ℕ) → IsIn domain path
     → (matching_indexes (before ++ g ∷ after) path ≡ []) ↔ (matching_indexes (before ++ after) path ≡ [])

@@ -1,22 +1,17 @@
 -- Rules of an ignore file that never decide. Each rule is given by its pattern, in the order of the lines, and named by its index.
-use Rattle.std.specs.Prelude.{◌≡◌, ◌≢◌, ℕ, ◌<◌, ◌⊎◌, Bool, true, not, ◌&&◌, ◌||◌, List, [], ◌∷◌, ◌++◌, length, Contains, Some, slice_get, IsTrue, IsFalse}
+use Rattle.std.specs.Prelude.{◌≡◌, ℕ, ◌<◌, ◌⊎◌, Bool, true, not, ◌||◌, List, ◌∷◌, ◌++◌, Contains, Some, slice_get, IsTrue, IsFalse}
 use Rattle.byte_nfa.specs.Steps.{NfaValue}
-use Rattle.ignore_pattern.specs.Patterns.{Pattern, pattern_matches}
-use Rattle.ignore_pattern.specs.Compared.{Compares}
+use Rattle.ignore_pattern.specs.Patterns.{Pattern, pattern_matches, applies}
+use Rattle.glob_relations.specs.Answers.{TellsCovering}
 use Rattle.glob_relations.specs.Domains.{IsIn}
-use Rattle.glob_relations.specs.Patterns.{IsPatternCovered, patterns_at, TellsPatternCovering}
 use Rattle.glob_relations.specs.Shortest.{IsShortest}
+use Rattle.glob_relations.specs.Unused.{IsLeastCover, items_at}
 use Rattle.glob_relations.specs.declared.domain.Domain.{Domain}
 use Rattle.glob_relations.specs.declared.relations.Coverage.TheVariants.{Unknown}
 use Rattle.glob_relations.specs.declared.rules.RuleReachability.{RuleReachability}
 use Rattle.glob_relations.specs.declared.rules.RuleReachability.TheVariants.{Decides as DecidesFor, Never, Hidden, Unknown as Undecided}
-use Rattle.glob_relations.specs.inner.Compared.{indexed_rules}
+use Rattle.glob_relations.specs.inner.Automata.{IsFor, indexed_rules}
 use Rattle.glob_relations.specs.inner.Rows.{HasMoreRows}
-
--- The rule applies to the path, of a folder or of something else: it matches the path, which has to be a folder if the rule is
--- for folders alone.
-abbrev pub applies : Bool → Pattern → List ℕ → Bool → Bool
-applies ignore_case p path is_folder = (is_folder || not p.folders_only) && pattern_matches ignore_case p path
 
 -- The rule of the index i, with the pattern p, decides about the path alone, of a folder or of something else: it applies, and no
 -- later rule does.
@@ -54,19 +49,14 @@ pub record IsRuleHidden (ignore_case : Bool) (ps : List Pattern) (i : ℕ) (p : 
 abbrev pub IsRival : List Pattern → ℕ → Pattern → ℕ → Type 0
 IsRival ps i p k = (i < k) × ((q : Pattern) × (slice_get ps k ≡ Some q) × IsTrue (p.folders_only || not q.folders_only))
 
--- The rule never decides: the rules at the indexes of the set are its rivals, and cover it. Without any of them they do not cover
--- it. The set has several indexes only if no rival covers it alone.
-pub record NeverDecides (ignore_case : Bool) (ps : List Pattern) (i : ℕ) (p : Pattern) (domain : Domain) (set : List ℕ) : Type 0 where
-  pub never : (path : List ℕ) → IsDecidedAlone ignore_case ps i p domain path → ⊥
-  pub within : (k : ℕ) → Contains set k → IsRival ps i p k
-  pub covers : IsPatternCovered ignore_case p (patterns_at ps set) domain
-  pub least : (k : ℕ) → Contains set k → (rest : List ℕ) → ((j : ℕ) → Contains rest j → Contains set j × (j ≢ k)) → IsPatternCovered ignore_case p (patterns_at ps rest) domain → ⊥
-  pub single : 1 < length set → (k : ℕ) → IsRival ps i p k → IsPatternCovered ignore_case p (patterns_at ps (k ∷ [])) domain → ⊥
+-- The rule decides about no path alone, and the set is a least cover of it by rivals.
+abbrev pub NeverDecides : Bool → List Pattern → ℕ → Pattern → Domain → List ℕ → Type 0
+NeverDecides ignore_case ps i p domain set = ((path : List ℕ) → IsDecidedAlone ignore_case ps i p domain path → ⊥) × IsLeastCover (pattern_matches ignore_case) ps p (IsRival ps i p) domain set
 
 -- paths lead to more than `limit` different rows of an automaton for the rule and some of its rivals, or for these and all rules
 abbrev pub HasTooMany : Bool → List Pattern → ℕ → Pattern → Domain → ℕ → Type 0
 HasTooMany ignore_case ps i p domain limit = (by : List ℕ) × ((k : ℕ) → Contains by k → IsRival ps i p k)
-    × (TellsPatternCovering ignore_case p (patterns_at ps by) domain limit Unknown ⊎ ((m : NfaValue) × Compares ignore_case (indexed_rules p (patterns_at ps by) ps) m × HasMoreRows m domain limit))
+    × (TellsCovering (pattern_matches ignore_case) p (items_at ps by) domain limit Unknown ⊎ ((m : NfaValue) × IsFor (pattern_matches ignore_case) (indexed_rules p (items_at ps by) ps) m × HasMoreRows m domain limit))
 
 -- The answer is right: the path is a shortest path about which the rule decides; or the rule never decides, and the set is a
 -- least cover by rivals; or the rule is hidden; or there are more rows than the limit.

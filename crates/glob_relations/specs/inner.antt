@@ -4,7 +4,4 @@ pub mod Rows
 pub mod Leading
 pub mod Memory
 pub mod Automata
-pub mod Compared
-pub mod Rivals
-pub mod Finding
 pub mod Told

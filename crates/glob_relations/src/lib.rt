@@ -17,6 +17,7 @@
 #![tactic(auto)]
 
 mod classes;
+mod compared;
 mod domain;
 mod finding;
 mod ignoring;
@@ -24,7 +25,6 @@ mod indexes;
 pub mod laws;
 mod leading;
 mod pass;
-mod patterns;
 mod relations;
 mod rows;
 mod rules;
@@ -32,8 +32,7 @@ mod search;
 mod unused;
 
 pub use domain::Domain;
-pub use patterns::covering_pattern;
-pub use relations::{Coverage, Intersection, covering, overlap};
+pub use relations::{Coverage, Intersection, covering, covering_pattern, overlap};
 pub use rules::{RuleReachability, unreachable_rules};
 pub use unused::{Decides, Reachability, unreachable};
 

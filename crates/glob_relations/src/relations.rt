@@ -1,21 +1,23 @@
-//! The questions about globs.
+//! Whether globs cover a glob, or patterns of ignore files a pattern, and whether two globs overlap.
 
-ghost use Rattle.std.specs.Prelude.{◌≡◌, ℕ, ◌<◌, ◌++◌, ◌∷◌, [], List, OnOk, IfOk, IsOkUnless};
-ghost use Rattle.byte_nfa.specs.Runs.{size};
-ghost use Rattle.glob_strategy.specs.IndexedTokens.{IndexedTokens, IsFor};
+ghost use Rattle.std.specs.Prelude.{◌≡◌, ◌∷◌, [], IfOk, IsOkUnless};
 ghost use Rattle.glob_text.specs.Errors.{out_of_memory};
+ghost use Rattle.glob_text.specs.GlobMatches.{glob_matches};
+ghost use Rattle.ignore_pattern.specs.Patterns.{pattern_matches};
 ghost use Rattle.glob_relations.specs.Answers.{TellsCovering, TellsOverlap};
+ghost use Rattle.glob_relations.specs.inner.Automata.{IsFor};
 ghost use Rattle.glob_relations.specs.inner.Told.{coverage_of, intersection_of};
-ghost use Rattle.glob_relations.specs.inner.Automata.{indexed_glob, indexed_globs};
 
+use crate::compared::{Compared, automaton_of_one};
 use crate::domain::Domain;
 use crate::search::{Answer, search};
-use byte_nfa::{Builder, Nfa};
-use glob_strategy::{add_tokens, new_builder};
-use globset_glob::{Error, Glob, options_of, tokens_of};
+use byte_nfa::Nfa;
+use glob_strategy::new_builder;
+use globset_glob::{Error, Glob};
+use ignore_pattern::IgnorePattern;
 use std::alloc::{AllocError, Global};
 
-/// Whether globs cover a glob.
+/// Whether globs cover a glob; of [`covering_pattern`], whether patterns cover a pattern.
 #[derive(Drop)]
 pub enum Coverage {
     /// Each path of the domain that the glob matches is matched by some of the others.
@@ -50,15 +52,50 @@ pub fn covering(
     domain: Domain,
     limit: usize,
 ) -> Result<Coverage, Error>
-    ensures ok { IfOk result (TellsCovering glob.now by.now domain limit) }
+    ensures ok { IfOk result (TellsCovering glob_matches glob.now by.now domain limit) }
     ensures err { IsOkUnless result out_of_memory }
 {
-    let automaton = automaton_of_one(alloc, glob, by)?;
+    Ok(cover(alloc, (), glob, by, domain, limit)?)
+}
+
+/// Returns whether other patterns of ignore files together match each path of a domain that a pattern matches, and otherwise a
+/// shortest path that they miss.
+///
+/// Patterns match as `core.ignoreCase` of git says. Which of them are negated, or for folders alone, has no effect:
+/// [`unreachable_rules`] is about that. It has the limit and the cost of [`covering`]. Fails only if memory runs out.
+///
+/// [`unreachable_rules`]: crate::unreachable_rules
+pub fn covering_pattern(
+    alloc: Global,
+    pattern: &IgnorePattern,
+    by: &[IgnorePattern],
+    ignore_case: bool,
+    domain: Domain,
+    limit: usize,
+) -> Result<Coverage, AllocError>
+    ensures { IfOk result
+        (TellsCovering (pattern_matches ignore_case) pattern.now by.now domain limit) }
+{
+    cover(alloc, ignore_case, pattern, by, domain, limit)
+}
+
+/// Returns whether other items cover an item.
+fn cover<T: Compared>(
+    alloc: Global,
+    options: T::Options,
+    item: &T,
+    by: &[T],
+    domain: Domain,
+    limit: usize,
+) -> Result<Coverage, AllocError>
+    ensures { IfOk result (TellsCovering (T.matches options) item.now by.now domain limit) }
+{
+    let automaton = automaton_of_one(alloc, options, item, by)?;
     let answer = search(alloc, &automaton, 1, domain, limit)?;
     Ok(coverage_of(answer))
 }
 
-/// Returns the coverage that a search found, for a glob and the globs that may cover it.
+/// Returns the coverage that a search found, for an item and those that may cover it.
 pub(crate) fn coverage_of(answer: Answer) -> Coverage
     ensures { result ≡ coverage_of answer }
 {
@@ -97,42 +134,12 @@ fn intersection_of(answer: Answer) -> Intersection
     }
 }
 
-/// Returns an automaton where a glob has the index 0, and each of the others has the index 1.
-fn automaton_of_one(alloc: Global, glob: &Glob, others: &[Glob]) -> Result<Nfa, AllocError>
-    ensures { IfOk result
-        (λ m. IsFor m (indexed_glob 0 glob.now ∷ indexed_globs 1 others.now)) }
-{
-    let mut builder = new_builder(alloc, 2);
-    add(alloc, &mut builder, glob, 0)?;
-    for other in others {
-        add(alloc, &mut builder, other, 1)?;
-    }
-    Ok(builder.finish())
-}
-
 /// Returns an automaton where a glob has the index 0, and another has the index 1, and none has the index 2.
 fn automaton_of_two(alloc: Global, a: &Glob, b: &Glob) -> Result<Nfa, AllocError>
-    ensures { IfOk result
-        (λ m. IsFor m (indexed_glob 0 a.now ∷ indexed_glob 1 b.now ∷ [])) }
+    ensures { IfOk result (IsFor glob_matches ((a.now, 0) ∷ (b.now, 1) ∷ [])) }
 {
     let mut builder = new_builder(alloc, 3);
-    add(alloc, &mut builder, a, 0)?;
-    add(alloc, &mut builder, b, 1)?;
+    a.add_to(alloc, (), &mut builder, 0)?;
+    b.add_to(alloc, (), &mut builder, 1)?;
     Ok(builder.finish())
-}
-
-/// Adds a glob to an automaton that is being built, under an index.
-pub(crate) fn add(
-    alloc: Global,
-    builder: &mut Builder,
-    glob: &Glob,
-    index: usize,
-) -> Result<(), AllocError>
-    requires { index < builder.old.index_count }
-    ensures added { OnOk result
-        ((xs : List IndexedTokens) → IsFor builder.old xs
-        → IsFor builder.new (xs ++ indexed_glob index glob.now ∷ [])) }
-    ensures index_count { builder.new.index_count ≡ builder.old.index_count }
-{
-    add_tokens(alloc, builder, options_of(glob), tokens_of(glob), index)
 }

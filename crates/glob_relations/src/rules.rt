@@ -1,27 +1,18 @@
 //! Rules of an ignore file that never decide.
 
-ghost use Rattle.std.specs.Prelude.{◌≡◌, ℕ, ◌<◌, ◌||◌, not, ◌∷◌, [], length, Contains, slice_get, Some, IfOk, IsTrue, IsFalse, MatchOption, ◌↔◌};
-ghost use Rattle.bit_sets.specs.Indexes.{has_index};
-ghost use Rattle.ignore_pattern.specs.Compared.{Compares};
-ghost use Rattle.ignore_pattern.specs.Patterns.{Pattern};
-ghost use Rattle.glob_relations.specs.Patterns.{IsPatternCovered, IsPatternMissed, TellsPatternCovering, patterns_at};
+ghost use Rattle.std.specs.Prelude.{◌≡◌, ℕ, ◌<◌, ◌||◌, not, length, Contains, slice_get, Some, IfOk, ◌↔◌};
+ghost use Rattle.ignore_pattern.specs.Patterns.{Pattern, pattern_matches};
 ghost use Rattle.glob_relations.specs.Rules.{IsDecidedAlone, IsRival, TellsRule};
 ghost use Rattle.glob_relations.specs.Shortest.{IsShortest};
-ghost use Rattle.glob_relations.specs.declared.relations.Coverage.TheVariants.{Unknown};
+ghost use Rattle.glob_relations.specs.Unused.{items_at};
+ghost use Rattle.glob_relations.specs.inner.Automata.{FindsEach, IsFor, indexed_rules};
 ghost use Rattle.glob_relations.specs.inner.Closed.{ignores_of};
-ghost use Rattle.glob_relations.specs.inner.Compared.{indexed_rules};
-ghost use Rattle.glob_relations.specs.inner.Finding.{FindsEach};
-ghost use Rattle.glob_relations.specs.inner.Rivals.{TellsAmong};
 
+use crate::compared::{add_numbered, automaton_of_list, builder_at};
 use crate::domain::Domain;
-use crate::finding::{add_numbered, automaton_of_list, found_indexes, place_of_found};
 use crate::ignoring::{hiding_rule, ignores_of};
-use crate::indexes::without;
-use crate::patterns::{builder_at, covering_at};
-use crate::relations::Coverage;
 use crate::search::{Answer, Question, ask};
-use crate::unused::Reachability;
-use bit_sets::IndexSet;
+use crate::unused::{Reachability, reachability_among};
 use byte_nfa::Nfa;
 use ignore_pattern::IgnorePattern;
 use std::alloc::{AllocError, Global};
@@ -35,8 +26,8 @@ pub enum RuleReachability {
     /// It never decides: later rules of these indexes cover it. None can be left out. It is one index if one of them covers the
     /// rule alone, and none if the rule matches no path of the domain.
     Never(Vec<usize>),
-    /// It never decides: each path about which it decides alone lies below an ignored folder. The rule of this index ignores a
-    /// folder above one of these paths, a shortest one.
+    /// It never decides, but it would if no folder were ignored. The rule of this index ignores a folder above a shortest path about
+    /// which it would.
     Hidden(usize),
     /// There are more rows than the limit.
     Unknown,
@@ -69,7 +60,7 @@ pub fn unreachable_rules(
         → slice_get patterns.now i ≡ Some p → slice_get all.items i ≡ Some told
         → TellsRule ignore_case patterns.now i p domain limit told) }
 {
-    let automaton = automaton_of_list(alloc, patterns, ignore_case)?;
+    let automaton = automaton_of_list(alloc, ignore_case, patterns)?;
     let ignores = ignores_of(alloc, patterns)?;
     let question = Question {
         required: 1,
@@ -104,7 +95,7 @@ fn rule_reachability(
     limit: usize,
 ) -> Result<RuleReachability, AllocError>
     requires within { i < length patterns.now }
-    requires finds { FindsEach ignore_case patterns.now automaton.now }
+    requires finds { FindsEach (pattern_matches ignore_case) patterns.now automaton.now }
     requires required { question.now.required ≡ 1 }
     requires ignores { question.now.ignores.items ≡ ignores_of patterns.now }
     ensures { IfOk result
@@ -115,11 +106,11 @@ fn rule_reachability(
     let others = rivals(alloc, pattern, patterns, i)?;
     let alone = reachability_among(
         alloc,
+        ignore_case,
         pattern,
         patterns,
         automaton,
         &others,
-        ignore_case,
         domain,
         limit,
     )?;
@@ -157,7 +148,7 @@ fn decide_by_git(
     domain: Domain,
     limit: usize,
 ) -> Result<RuleReachability, AllocError>
-    requires finds { FindsEach ignore_case patterns.now automaton.now }
+    requires finds { FindsEach (pattern_matches ignore_case) patterns.now automaton.now }
     requires required { question.now.required ≡ 1 }
     requires ignores { question.now.ignores.items ≡ ignores_of patterns.now }
     requires others { (k : ℕ) → Contains others.now k ↔ IsRival patterns.now i pattern.now k }
@@ -188,12 +179,12 @@ fn automaton_of_rule(
 ) -> Result<Nfa, AllocError>
     requires { (k : ℕ) → Contains others.now k → k < length patterns.now }
     ensures { IfOk result
-        (Compares ignore_case
-        (indexed_rules pattern.now (patterns_at patterns.now others.now) patterns.now)) }
+        (IsFor (pattern_matches ignore_case)
+        (indexed_rules pattern.now (items_at patterns.now others.now) patterns.now)) }
 {
     let count = patterns.len() + 2;
-    let mut builder = builder_at(alloc, count, pattern, patterns, others, ignore_case)?;
-    add_numbered(&mut builder, ignore_case, patterns, 2)?;
+    let mut builder = builder_at(alloc, ignore_case, count, pattern, patterns, others)?;
+    add_numbered(alloc, ignore_case, &mut builder, patterns, 2)?;
     Ok(builder.finish())
 }
 
@@ -222,204 +213,4 @@ fn applies_wherever(rule: &IgnorePattern, other: &IgnorePattern) -> bool
     ensures { result ≡ (other.now.folders_only || not rule.now.folders_only) }
 {
     other.is_folders_only() || !rule.is_folders_only()
-}
-
-/// Returns whether a rule ever decides, where the rules at these indexes can decide instead.
-fn reachability_among(
-    alloc: Global,
-    pattern: &IgnorePattern,
-    patterns: &[IgnorePattern],
-    automaton: &Nfa,
-    others: &[usize],
-    ignore_case: bool,
-    domain: Domain,
-    limit: usize,
-) -> Result<Reachability, AllocError>
-    requires within { (k : ℕ) → Contains others.now k → k < length patterns.now }
-    requires finds { FindsEach ignore_case patterns.now automaton.now }
-    ensures { IfOk result
-        (TellsAmong ignore_case patterns.now pattern.now others.now domain limit) }
-{
-    match covering_at(alloc, pattern, patterns, &[], ignore_case, domain, limit)? {
-        Coverage::Covered => Ok(Reachability::Never(Vec::new(alloc))),
-        Coverage::Not(path) => decide(
-            alloc,
-            pattern,
-            patterns,
-            automaton,
-            others,
-            path,
-            ignore_case,
-            domain,
-            limit,
-        ),
-        Coverage::Unknown => Ok(Reachability::Unknown),
-    }
-}
-
-/// Returns whether a rule ever decides, by a shortest path that it matches. Rivals that match the path so far are put together
-/// until they cover the rule, or no other rival matches the next path.
-fn decide(
-    alloc: Global,
-    pattern: &IgnorePattern,
-    patterns: &[IgnorePattern],
-    automaton: &Nfa,
-    others: &[usize],
-    first: Vec<u8>,
-    ignore_case: bool,
-    domain: Domain,
-    limit: usize,
-) -> Result<Reachability, AllocError>
-    requires within { (k : ℕ) → Contains others.now k → k < length patterns.now }
-    requires finds { FindsEach ignore_case patterns.now automaton.now }
-    requires first { IsShortest (IsPatternMissed ignore_case pattern.now [] domain) first.items }
-    ensures { IfOk result
-        (TellsAmong ignore_case patterns.now pattern.now others.now domain limit) }
-{
-    let mut path = first;
-    let mut by = Vec::new(alloc);
-    let mut rest = Vec::from_slice(alloc, others)?;
-    loop {
-        let found = found_indexes(alloc, automaton, &path)?;
-        let Some(place) = place_of_found(&found, &rest) else {
-            return Ok(Reachability::Decides(path));
-        };
-        by.push(rest[place])?;
-        rest = without(alloc, &rest, place)?;
-        match covering_at(alloc, pattern, patterns, &by, ignore_case, domain, limit)? {
-            Coverage::Covered => {
-                return cover(
-                    alloc,
-                    pattern,
-                    patterns,
-                    others,
-                    &by,
-                    &found,
-                    ignore_case,
-                    domain,
-                    limit,
-                );
-            }
-            Coverage::Not(next) => path = next,
-            Coverage::Unknown => return Ok(Reachability::Unknown),
-        }
-    }
-}
-
-/// Returns the index of a rule that covers another alone, or the indexes of several that cover it together. The rules at `by`
-/// cover it, and it matches a path: a rule that is not among those that were found for this path does not cover it.
-fn cover(
-    alloc: Global,
-    pattern: &IgnorePattern,
-    patterns: &[IgnorePattern],
-    others: &[usize],
-    by: &[usize],
-    found: &IndexSet,
-    ignore_case: bool,
-    domain: Domain,
-    limit: usize,
-) -> Result<Reachability, AllocError>
-    requires within { (k : ℕ) → Contains others.now k → k < length patterns.now }
-    requires by { (k : ℕ) → Contains by.now k → Contains others.now k }
-    requires covered { IsPatternCovered ignore_case pattern.now
-        (patterns_at patterns.now by.now) domain }
-    requires some { IsPatternCovered ignore_case pattern.now [] domain → ⊥ }
-    requires found { (k : ℕ) → IsFalse (has_index found.now k)
-        → IsPatternCovered ignore_case pattern.now (patterns_at patterns.now (k ∷ [])) domain → ⊥ }
-    ensures { IfOk result
-        (TellsAmong ignore_case patterns.now pattern.now others.now domain limit) }
-{
-    for k in others {
-        let Some(covers) = covers_alone(
-            alloc,
-            pattern,
-            patterns,
-            *k,
-            found,
-            ignore_case,
-            domain,
-            limit,
-        )?
-        else {
-            return Ok(Reachability::Unknown);
-        };
-        if covers {
-            return Ok(Reachability::Never(Vec::from_array(alloc, [*k])?));
-        }
-    }
-    least_cover(
-        alloc,
-        pattern,
-        patterns,
-        others,
-        by,
-        ignore_case,
-        domain,
-        limit,
-    )
-}
-
-/// Returns whether the rule at an index covers another alone, or `None` if there are more rows than the limit. It does not if it
-/// is not among those that were found.
-fn covers_alone(
-    alloc: Global,
-    pattern: &IgnorePattern,
-    patterns: &[IgnorePattern],
-    k: usize,
-    found: &IndexSet,
-    ignore_case: bool,
-    domain: Domain,
-    limit: usize,
-) -> Result<Option<bool>, AllocError>
-    requires within { k < length patterns.now }
-    requires found { IsFalse (has_index found.now k)
-        → IsPatternCovered ignore_case pattern.now (patterns_at patterns.now (k ∷ [])) domain → ⊥ }
-    ensures { IfOk result
-        (λ told. MatchOption told
-        (TellsPatternCovering ignore_case pattern.now (patterns_at patterns.now (k ∷ [])) domain
-        limit Unknown)
-        (λ covers. IsTrue covers
-        ↔ IsPatternCovered ignore_case pattern.now (patterns_at patterns.now (k ∷ [])) domain)) }
-{
-    if !found.has(k) {
-        return Ok(Some(false));
-    }
-    match covering_at(alloc, pattern, patterns, &[k], ignore_case, domain, limit)? {
-        Coverage::Covered => Ok(Some(true)),
-        Coverage::Not(_) => Ok(Some(false)),
-        Coverage::Unknown => Ok(None),
-    }
-}
-
-/// Returns some of the indexes `by`, whose rules cover another, so that none can be left out. It tries to leave out each in turn.
-fn least_cover(
-    alloc: Global,
-    pattern: &IgnorePattern,
-    patterns: &[IgnorePattern],
-    others: &[usize],
-    by: &[usize],
-    ignore_case: bool,
-    domain: Domain,
-    limit: usize,
-) -> Result<Reachability, AllocError>
-    requires within { (k : ℕ) → Contains others.now k → k < length patterns.now }
-    requires by { (k : ℕ) → Contains by.now k → Contains others.now k }
-    requires covered { IsPatternCovered ignore_case pattern.now
-        (patterns_at patterns.now by.now) domain }
-    requires single { (k : ℕ) → Contains others.now k
-        → IsPatternCovered ignore_case pattern.now (patterns_at patterns.now (k ∷ [])) domain → ⊥ }
-    ensures { IfOk result
-        (TellsAmong ignore_case patterns.now pattern.now others.now domain limit) }
-{
-    let mut set = Vec::from_slice(alloc, by)?;
-    let mut i = 0;
-    while i < set.len() {
-        let fewer = without(alloc, &set, i)?;
-        match covering_at(alloc, pattern, patterns, &fewer, ignore_case, domain, limit)? {
-            Coverage::Covered => set = fewer,
-            Coverage::Not(_) => i += 1,
-            Coverage::Unknown => return Ok(Reachability::Unknown),
-        }
-    }
-    Ok(Reachability::Never(set))
 }

@@ -1,23 +1,25 @@
-//! Globs of a list that never decide.
+//! Globs of a list that never decide; and the search by which items, globs or patterns of ignore files, are found that never do.
 
 ghost use Rattle.std.specs.Prelude.{◌≡◌, ℕ, ◌+◌, ◌-◌, ◌<◌, ◌≤◌, ◌∷◌, [], length, Contains, slice_get, Some, IfOk, IsFalse, IsTrue, IsOkUnless, MatchOption, ◌↔◌};
 ghost use Rattle.std.specs.List.{range_with_len};
-ghost use Rattle.glob_strategy.specs.IndexedTokens.{IsFor};
+ghost use Rattle.bit_sets.specs.Indexes.{has_index};
 ghost use Rattle.glob_text.specs.Errors.{out_of_memory};
-ghost use Rattle.glob_text.specs.GlobMatches.{GlobValue};
-ghost use Rattle.glob_relations.specs.Answers.{TellsCovering, IsCovered, IsMissed, some_match};
+ghost use Rattle.glob_text.specs.GlobMatches.{GlobValue, glob_matches};
+ghost use Rattle.glob_relations.specs.Answers.{TellsCovering, IsCovered, IsMissed};
 ghost use Rattle.glob_relations.specs.Shortest.{IsShortest};
 ghost use Rattle.glob_relations.specs.declared.relations.Coverage.TheVariants.{Unknown};
-ghost use Rattle.glob_relations.specs.Unused.{globs_at, rivals, TellsReachability};
-ghost use Rattle.glob_relations.specs.inner.Automata.{indexed_glob, indexed_globs};
+ghost use Rattle.glob_relations.specs.Unused.{items_at, rivals, TellsReachability};
+ghost use Rattle.glob_relations.specs.inner.Automata.{FindsEach};
 
+use crate::compared::{Compared, automaton_of_list, builder_at};
 use crate::domain::Domain;
+use crate::finding::{found_indexes, place_of_found};
 use crate::indexes::without;
-use crate::relations::{Coverage, add, coverage_of};
+use crate::relations::{Coverage, coverage_of};
 use crate::search::search;
+use bit_sets::IndexSet;
 use byte_nfa::Nfa;
-use glob_strategy::new_builder;
-use globset_glob::{Candidate, Error, Glob, GlobMatcher};
+use globset_glob::{Error, Glob};
 use std::alloc::{AllocError, Global};
 
 /// Which of the globs of a list that match a path decides.
@@ -61,131 +63,46 @@ pub fn unreachable(
     ensures each { IfOk result
         (λ all. (i : ℕ) (g : GlobValue) (told : Reachability)
         → slice_get globs.now i ≡ Some g → slice_get all.items i ≡ Some told
-        → TellsReachability globs.now g (rivals decides i (length globs.now)) domain limit told) }
+        → TellsReachability glob_matches globs.now g (rivals decides i (length globs.now)) domain
+        limit told) }
     ensures err { IsOkUnless result out_of_memory }
 {
-    let matchers = matchers_of(alloc, globs)?;
+    let automaton = automaton_of_list(alloc, (), globs)?;
     let mut all = Vec::new(alloc);
     for i in 0..globs.len() {
-        all.push(find_reachability(alloc, globs, &matchers, i, decides, domain, limit)?)?;
+        all.push(find_reachability(alloc, globs, &automaton, i, decides, domain, limit)?)?;
     }
     Ok(all)
 }
 
-/// Returns the matcher of each glob, in order.
-fn matchers_of(alloc: Global, globs: &[Glob]) -> Result<Vec<GlobMatcher>, Error>
-    ensures ok { IfOk result (λ matchers. matchers.items ≡ globs.now) }
-    ensures err { IsOkUnless result out_of_memory }
-{
-    let mut matchers = Vec::new(alloc);
-    for glob in globs {
-        matchers.push(glob.compile_matcher()?)?;
-    }
-    Ok(matchers)
-}
-
-/// Returns whether a glob of a list ever decides.
+/// Returns whether a glob of a list ever decides. The automaton finds which of them match a path.
 fn find_reachability(
     alloc: Global,
     globs: &[Glob],
-    matchers: &[GlobMatcher],
+    automaton: &Nfa,
     i: usize,
     decides: Decides,
     domain: Domain,
     limit: usize,
-) -> Result<Reachability, Error>
+) -> Result<Reachability, AllocError>
     requires within { i < length globs.now }
-    requires matchers { matchers.now ≡ globs.now }
-    ensures told { IfOk result
+    requires finds { FindsEach glob_matches globs.now automaton.now }
+    ensures { IfOk result
         (λ told. (g : GlobValue) → slice_get globs.now i ≡ Some g
-        → TellsReachability globs.now g (rivals decides i (length globs.now)) domain limit told) }
-    ensures err { IsOkUnless result out_of_memory }
+        → TellsReachability glob_matches globs.now g (rivals decides i (length globs.now)) domain
+        limit told) }
 {
     let others = rivals(alloc, decides, i, globs.len())?;
-    reachability_among(alloc, &globs[i], globs, matchers, &others, domain, limit)
-}
-
-/// Returns whether a glob ever decides, where the globs at these indexes can decide instead.
-fn reachability_among(
-    alloc: Global,
-    glob: &Glob,
-    globs: &[Glob],
-    matchers: &[GlobMatcher],
-    others: &[usize],
-    domain: Domain,
-    limit: usize,
-) -> Result<Reachability, Error>
-    requires within { (k : ℕ) → Contains others.now k → k < length globs.now }
-    requires matchers { matchers.now ≡ globs.now }
-    ensures told { IfOk result (TellsReachability globs.now glob.now others.now domain limit) }
-    ensures err { IsOkUnless result out_of_memory }
-{
-    match covering_at(alloc, glob, globs, &[], domain, limit)? {
-        Coverage::Covered => Ok(Reachability::Never(Vec::new(alloc))),
-        Coverage::Not(path) => decide(alloc, glob, globs, matchers, others, path, domain, limit),
-        Coverage::Unknown => Ok(Reachability::Unknown),
-    }
-}
-
-/// Returns whether a glob ever decides, by a shortest path that it matches. Rivals that match the path so far are put together
-/// until they cover the glob, or no other rival matches the next path.
-fn decide(
-    alloc: Global,
-    glob: &Glob,
-    globs: &[Glob],
-    matchers: &[GlobMatcher],
-    others: &[usize],
-    first: Vec<u8>,
-    domain: Domain,
-    limit: usize,
-) -> Result<Reachability, Error>
-    requires within { (k : ℕ) → Contains others.now k → k < length globs.now }
-    requires matchers { matchers.now ≡ globs.now }
-    requires first { IsShortest (IsMissed glob.now [] domain) first.items }
-    ensures told { IfOk result (TellsReachability globs.now glob.now others.now domain limit) }
-    ensures err { IsOkUnless result out_of_memory }
-{
-    let mut path = first;
-    let mut by = Vec::new(alloc);
-    let mut rest = Vec::from_slice(alloc, others)?;
-    loop {
-        let Some(place) = place_of_match(matchers, &rest, &path)? else {
-            return Ok(Reachability::Decides(path));
-        };
-        by.push(rest[place])?;
-        rest = without(alloc, &rest, place)?;
-        match covering_at(alloc, glob, globs, &by, domain, limit)? {
-            Coverage::Covered => {
-                return cover(
-                    alloc, glob, globs, matchers, others, &by, &path, domain, limit,
-                );
-            }
-            Coverage::Not(next) => path = next,
-            Coverage::Unknown => return Ok(Reachability::Unknown),
-        }
-    }
-}
-
-/// Returns the place of the first of some indexes whose glob matches a path.
-fn place_of_match(
-    matchers: &[GlobMatcher],
-    indexes: &[usize],
-    path: &[u8],
-) -> Result<Option<usize>, Error>
-    requires { (k : ℕ) → Contains indexes.now k → k < length matchers.now }
-    ensures place { IfOk result
-        (λ found. MatchOption found
-        (IsFalse (some_match (globs_at matchers.now indexes.now) path.now))
-        (λ place. place < length indexes.now)) }
-    ensures err { IsOkUnless result out_of_memory }
-{
-    let candidate = Candidate::from_bytes(path);
-    for place in 0..indexes.len() {
-        if matchers[indexes[place]].is_match_candidate(&candidate)? {
-            return Ok(Some(place));
-        }
-    }
-    Ok(None)
+    reachability_among(
+        alloc,
+        (),
+        &globs[i],
+        globs,
+        automaton,
+        &others,
+        domain,
+        limit,
+    )
 }
 
 /// Returns the indexes of the globs that can decide instead of a glob.
@@ -211,29 +128,97 @@ fn numbers(alloc: Global, low: usize, high: usize) -> Result<Vec<usize>, AllocEr
     Ok(all)
 }
 
-/// Returns the index of a glob that covers another alone, or the indexes of several that cover it together. The globs at `by`
-/// cover it, and it matches a path: a glob that does not match this path, too, does not cover it.
-fn cover(
+/// Returns whether an item of a list ever decides, where the items at these indexes, its rivals, can decide instead. The automaton
+/// finds which items of the list match a path.
+pub fn reachability_among<T: Compared>(
     alloc: Global,
-    glob: &Glob,
-    globs: &[Glob],
-    matchers: &[GlobMatcher],
+    options: T::Options,
+    item: &T,
+    items: &[T],
+    automaton: &Nfa,
     others: &[usize],
-    by: &[usize],
-    path: &[u8],
     domain: Domain,
     limit: usize,
-) -> Result<Reachability, Error>
-    requires within { (k : ℕ) → Contains others.now k → k < length globs.now }
-    requires matchers { matchers.now ≡ globs.now }
+) -> Result<Reachability, AllocError>
+    requires within { (k : ℕ) → Contains others.now k → k < length items.now }
+    requires finds { FindsEach (T.matches options) items.now automaton.now }
+    ensures { IfOk result
+        (TellsReachability (T.matches options) items.now item.now others.now domain limit) }
+{
+    match covering_at(alloc, options, item, items, &[], domain, limit)? {
+        Coverage::Covered => Ok(Reachability::Never(Vec::new(alloc))),
+        Coverage::Not(path) => decide(
+            alloc, options, item, items, automaton, others, path, domain, limit,
+        ),
+        Coverage::Unknown => Ok(Reachability::Unknown),
+    }
+}
+
+/// Returns whether an item ever decides, by a shortest path that it matches. Rivals that match the path so far are put together
+/// until they cover the item, or no other rival matches the next path.
+fn decide<T: Compared>(
+    alloc: Global,
+    options: T::Options,
+    item: &T,
+    items: &[T],
+    automaton: &Nfa,
+    others: &[usize],
+    first: Vec<u8>,
+    domain: Domain,
+    limit: usize,
+) -> Result<Reachability, AllocError>
+    requires within { (k : ℕ) → Contains others.now k → k < length items.now }
+    requires finds { FindsEach (T.matches options) items.now automaton.now }
+    requires first { IsShortest (IsMissed (T.matches options) item.now [] domain) first.items }
+    ensures { IfOk result
+        (TellsReachability (T.matches options) items.now item.now others.now domain limit) }
+{
+    let mut path = first;
+    let mut by = Vec::new(alloc);
+    let mut rest = Vec::from_slice(alloc, others)?;
+    loop {
+        let found = found_indexes(alloc, automaton, &path)?;
+        let Some(place) = place_of_found(&found, &rest) else {
+            return Ok(Reachability::Decides(path));
+        };
+        by.push(rest[place])?;
+        rest = without(alloc, &rest, place)?;
+        match covering_at(alloc, options, item, items, &by, domain, limit)? {
+            Coverage::Covered => {
+                return cover(
+                    alloc, options, item, items, others, &by, &found, domain, limit,
+                );
+            }
+            Coverage::Not(next) => path = next,
+            Coverage::Unknown => return Ok(Reachability::Unknown),
+        }
+    }
+}
+
+/// Returns the index of a rival that covers an item alone, or the indexes of several that cover it together. The items at `by`
+/// cover it, and it matches a path: a rival that is not among those that were found for this path does not cover it.
+fn cover<T: Compared>(
+    alloc: Global,
+    options: T::Options,
+    item: &T,
+    items: &[T],
+    others: &[usize],
+    by: &[usize],
+    found: &IndexSet,
+    domain: Domain,
+    limit: usize,
+) -> Result<Reachability, AllocError>
+    requires within { (k : ℕ) → Contains others.now k → k < length items.now }
     requires by { (k : ℕ) → Contains by.now k → Contains others.now k }
-    requires covered { IsCovered glob.now (globs_at globs.now by.now) domain }
-    requires path { IsMissed glob.now [] domain path.now }
-    ensures told { IfOk result (TellsReachability globs.now glob.now others.now domain limit) }
-    ensures err { IsOkUnless result out_of_memory }
+    requires covered { IsCovered (T.matches options) item.now (items_at items.now by.now) domain }
+    requires some { IsCovered (T.matches options) item.now [] domain → ⊥ }
+    requires found { (k : ℕ) → IsFalse (has_index found.now k)
+        → IsCovered (T.matches options) item.now (items_at items.now (k ∷ [])) domain → ⊥ }
+    ensures { IfOk result
+        (TellsReachability (T.matches options) items.now item.now others.now domain limit) }
 {
     for k in others {
-        let Some(covers) = covers_alone(alloc, glob, globs, matchers, *k, path, domain, limit)?
+        let Some(covers) = covers_alone(alloc, options, item, items, *k, found, domain, limit)?
         else {
             return Ok(Reachability::Unknown);
         };
@@ -241,64 +226,65 @@ fn cover(
             return Ok(Reachability::Never(Vec::from_array(alloc, [*k])?));
         }
     }
-    least_cover(alloc, glob, globs, others, by, domain, limit)
+    least_cover(alloc, options, item, items, others, by, domain, limit)
 }
 
-/// Returns whether the glob at an index covers another alone, or `None` if there are more rows than the limit. The other matches a
-/// path.
-fn covers_alone(
+/// Returns whether the item at an index covers another alone, or `None` if there are more rows than the limit. It does not if it
+/// is not among those that were found.
+fn covers_alone<T: Compared>(
     alloc: Global,
-    glob: &Glob,
-    globs: &[Glob],
-    matchers: &[GlobMatcher],
+    options: T::Options,
+    item: &T,
+    items: &[T],
     k: usize,
-    path: &[u8],
+    found: &IndexSet,
     domain: Domain,
     limit: usize,
-) -> Result<Option<bool>, Error>
-    requires within { k < length globs.now }
-    requires matchers { matchers.now ≡ globs.now }
-    requires path { IsMissed glob.now [] domain path.now }
-    ensures covers { IfOk result
+) -> Result<Option<bool>, AllocError>
+    requires within { k < length items.now }
+    requires found { IsFalse (has_index found.now k)
+        → IsCovered (T.matches options) item.now (items_at items.now (k ∷ [])) domain → ⊥ }
+    ensures { IfOk result
         (λ told. MatchOption told
-        (TellsCovering glob.now (globs_at globs.now (k ∷ [])) domain limit Unknown)
-        (λ covers. IsTrue covers ↔ IsCovered glob.now (globs_at globs.now (k ∷ [])) domain)) }
-    ensures err { IsOkUnless result out_of_memory }
+        (TellsCovering (T.matches options) item.now (items_at items.now (k ∷ [])) domain limit
+        Unknown)
+        (λ covers. IsTrue covers
+        ↔ IsCovered (T.matches options) item.now (items_at items.now (k ∷ [])) domain)) }
 {
-    if !matchers[k].is_match_candidate(&Candidate::from_bytes(path))? {
+    if !found.has(k) {
         return Ok(Some(false));
     }
-    match covering_at(alloc, glob, globs, &[k], domain, limit)? {
+    match covering_at(alloc, options, item, items, &[k], domain, limit)? {
         Coverage::Covered => Ok(Some(true)),
         Coverage::Not(_) => Ok(Some(false)),
         Coverage::Unknown => Ok(None),
     }
 }
 
-/// Returns some of the indexes `by`, whose globs cover another, so that none can be left out. It tries to leave out each in
-/// turn.
-fn least_cover(
+/// Returns some of the indexes `by`, whose items cover another, so that none can be left out. It tries to leave out each in turn.
+fn least_cover<T: Compared>(
     alloc: Global,
-    glob: &Glob,
-    globs: &[Glob],
+    options: T::Options,
+    item: &T,
+    items: &[T],
     others: &[usize],
     by: &[usize],
     domain: Domain,
     limit: usize,
-) -> Result<Reachability, Error>
-    requires within { (k : ℕ) → Contains others.now k → k < length globs.now }
+) -> Result<Reachability, AllocError>
+    requires within { (k : ℕ) → Contains others.now k → k < length items.now }
     requires by { (k : ℕ) → Contains by.now k → Contains others.now k }
-    requires covered { IsCovered glob.now (globs_at globs.now by.now) domain }
-    requires single { (k : ℕ) → Contains others.now k → IsCovered glob.now (globs_at globs.now (k ∷ [])) domain → ⊥ }
-    ensures told { IfOk result (TellsReachability globs.now glob.now others.now domain limit) }
-    ensures err { IsOkUnless result out_of_memory }
+    requires covered { IsCovered (T.matches options) item.now (items_at items.now by.now) domain }
+    requires single { (k : ℕ) → Contains others.now k
+        → IsCovered (T.matches options) item.now (items_at items.now (k ∷ [])) domain → ⊥ }
+    ensures { IfOk result
+        (TellsReachability (T.matches options) items.now item.now others.now domain limit) }
 {
-    let mut set = Vec::new(alloc);
-    set.extend_from_slice(by)?;
+    let mut set = Vec::from_slice(alloc, by)?;
     let mut i = 0;
     while i < set.len() {
         let fewer = without(alloc, &set, i)?;
-        match covering_at(alloc, glob, globs, &fewer, domain, limit)? {
+        match covering_at(alloc, options, item, items, &fewer, domain, limit)? {
             Coverage::Covered => set = fewer,
             Coverage::Not(_) => i += 1,
             Coverage::Unknown => return Ok(Reachability::Unknown),
@@ -307,35 +293,21 @@ fn least_cover(
     Ok(Reachability::Never(set))
 }
 
-/// Returns whether each path of a domain that a glob matches is matched by some of the globs of a list at these indexes.
-fn covering_at(
+/// Returns whether each path of a domain that an item matches is matched by some of the items of a list at these indexes.
+fn covering_at<T: Compared>(
     alloc: Global,
-    glob: &Glob,
-    globs: &[Glob],
+    options: T::Options,
+    item: &T,
+    items: &[T],
     by: &[usize],
     domain: Domain,
     limit: usize,
-) -> Result<Coverage, Error>
-    requires { (k : ℕ) → Contains by.now k → k < length globs.now }
-    ensures ok { IfOk result
-        (TellsCovering glob.now (globs_at globs.now by.now) domain limit) }
-    ensures err { IsOkUnless result out_of_memory }
+) -> Result<Coverage, AllocError>
+    requires { (k : ℕ) → Contains by.now k → k < length items.now }
+    ensures { IfOk result
+        (TellsCovering (T.matches options) item.now (items_at items.now by.now) domain limit) }
 {
-    let automaton = automaton_at(alloc, glob, globs, by)?;
+    let automaton = builder_at(alloc, options, 2, item, items, by)?.finish();
     let answer = search(alloc, &automaton, 1, domain, limit)?;
     Ok(coverage_of(answer))
-}
-
-/// Returns an automaton for a glob, with the index 0, and for the globs of a list at these indexes, with the index 1.
-fn automaton_at(alloc: Global, glob: &Glob, globs: &[Glob], by: &[usize]) -> Result<Nfa, AllocError>
-    requires { (k : ℕ) → Contains by.now k → k < length globs.now }
-    ensures { IfOk result
-        (λ m. IsFor m (indexed_glob 0 glob.now ∷ indexed_globs 1 (globs_at globs.now by.now))) }
-{
-    let mut builder = new_builder(alloc, 2);
-    add(alloc, &mut builder, glob, 0)?;
-    for k in by {
-        add(alloc, &mut builder, &globs[*k], 1)?;
-    }
-    Ok(builder.finish())
 }

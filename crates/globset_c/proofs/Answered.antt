@@ -2,7 +2,7 @@
 use Rattle.std.proofs.Common.{◌≡◌, ℕ, List, Vec, length, subst}
 use Rattle.std.specs.Global.{Global}
 use Rattle.std.specs.Prelude.{Some, slice_get}
-use Rattle.glob_text.specs.GlobMatches.{GlobValue}
+use Rattle.glob_text.specs.GlobMatches.{GlobValue, glob_matches}
 use Rattle.glob_relations.specs.Answers.{TellsCovering, TellsOverlap}
 use Rattle.glob_relations.specs.Unused.{rivals, TellsReachability}
 use Rattle.glob_relations.specs.declared.domain.Domain.{Domain}
@@ -17,10 +17,10 @@ use Rattle.globset_c.specs.Kinds.{IfGlob}
 use Rattle.globset_c.specs.Relations.{AnswersCovering, AnswersOverlap, AnswersUnreachable}
 
 pub answers_covering : (o : Object) (g : GlobValue) (by globs : List GlobValue) (domain : Domain) (limit : ℕ) (c : Coverage)
-    → IfGlob (Some o) (λ h. g ≡ h) → by ≡ globs → TellsCovering g by domain limit c → AnswersCovering o globs domain limit (Some (Answers (answers.Coverage c)))
+    → IfGlob (Some o) (λ h. g ≡ h) → by ≡ globs → TellsCovering glob_matches g by domain limit c → AnswersCovering o globs domain limit (Some (Answers (answers.Coverage c)))
 unfolding AnswersCovering
 answers_covering (Glob h) g by globs domain limit c e same t =
-    subst (λ (x : GlobValue). TellsCovering x globs domain limit c) e (subst (λ (xs : List GlobValue). TellsCovering g xs domain limit c) same t)
+    subst (λ (x : GlobValue). TellsCovering glob_matches x globs domain limit c) e (subst (λ (xs : List GlobValue). TellsCovering glob_matches g xs domain limit c) same t)
 answers_covering (Matcher h) g by globs domain limit c e same t = absurd e
 answers_covering (Builder h) g by globs domain limit c e same t = absurd e
 answers_covering (Set h) g by globs domain limit c e same t = absurd e
@@ -52,8 +52,8 @@ answers_overlap (Answers k) p g h domain limit c e f t = absurd e
 answers_overlap (Ignore k) p g h domain limit c e f t = absurd e
 
 pub answers_unreachable : (copies globs : List GlobValue) (decides : Decides) (domain : Domain) (limit : ℕ) (all : Vec Reachability Global) → copies ≡ globs
-    → ((i : ℕ) (g : GlobValue) (r : Reachability) → slice_get copies i ≡ Some g → slice_get all.items i ≡ Some r → TellsReachability copies g (rivals decides i (length copies)) domain limit r)
+    → ((i : ℕ) (g : GlobValue) (r : Reachability) → slice_get copies i ≡ Some g → slice_get all.items i ≡ Some r → TellsReachability glob_matches copies g (rivals decides i (length copies)) domain limit r)
     → AnswersUnreachable globs decides domain limit (Some (Answers (answers.Reachabilities all)))
 unfolding AnswersUnreachable
 answers_unreachable copies globs decides domain limit all same told =
-    subst (λ (xs : List GlobValue). (i : ℕ) (g : GlobValue) (r : Reachability) → slice_get xs i ≡ Some g → slice_get all.items i ≡ Some r → TellsReachability xs g (rivals decides i (length xs)) domain limit r) same told
+    subst (λ (xs : List GlobValue). (i : ℕ) (g : GlobValue) (r : Reachability) → slice_get xs i ≡ Some g → slice_get all.items i ≡ Some r → TellsReachability glob_matches xs g (rivals decides i (length xs)) domain limit r) same told

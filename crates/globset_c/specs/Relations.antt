@@ -2,7 +2,7 @@
 use Rattle.std.specs.Prelude.{◌≡◌, ◌==◌, ℕ, ◌<◌, Bool, Option, Some, List, [], ◌∷◌, length, map, slice_get, IsSomeAnd, if◌then◌else◌}
 use Rattle.git_ignore.specs.Rules.{lines_of_rules, patterns_of, rules_of}
 use Rattle.git_ignore.specs.StackValue.{file_at}
-use Rattle.glob_text.specs.GlobMatches.{GlobValue}
+use Rattle.glob_text.specs.GlobMatches.{GlobValue, glob_matches}
 use Rattle.glob_relations.specs.Answers.{TellsCovering, TellsOverlap}
 use Rattle.glob_relations.specs.Rules.{TellsRule}
 use Rattle.glob_relations.specs.Unused.{rivals, TellsReachability}
@@ -66,7 +66,7 @@ IfRules _ P = ⊥
 
 -- The object is a glob, and the answer tells whether the others cover it.
 unfoldable pub AnswersCovering : Object → List GlobValue → Domain → ℕ → Option Object → Type 0
-AnswersCovering o by domain limit answer = IfGlob (Some o) (λ g. IfCoverage answer (TellsCovering g by domain limit))
+AnswersCovering o by domain limit answer = IfGlob (Some o) (λ g. IfCoverage answer (TellsCovering glob_matches g by domain limit))
 
 -- The objects are globs, and the answer tells whether they match some path in common.
 unfoldable pub AnswersOverlap : Object → Object → Domain → ℕ → Option Object → Type 0
@@ -75,7 +75,7 @@ AnswersOverlap o p domain limit answer = IfGlob (Some o) (λ g. IfGlob (Some p) 
 -- Each answer tells whether the glob of its index ever decides.
 unfoldable pub AnswersUnreachable : List GlobValue → Decides → Domain → ℕ → Option Object → Type 0
 AnswersUnreachable globs decides domain limit answer = IfReachabilities answer (λ told. (i : ℕ) (g : GlobValue) (r : Reachability)
-    → slice_get globs i ≡ Some g → slice_get told i ≡ Some r → TellsReachability globs g (rivals decides i (length globs)) domain limit r)
+    → slice_get globs i ≡ Some g → slice_get told i ≡ Some r → TellsReachability glob_matches globs g (rivals decides i (length globs)) domain limit r)
 
 -- There is an answer for each rule of an ignore file, given by its bytes. It tells whether the rule ever decides. The lines are those
 -- of the rules.

@@ -1,6 +1,7 @@
 //! Rows about globs that cover a glob, and about globs that overlap.
 
 ghost use Rattle.std.specs.Prelude.{IfOk, MatchOption};
+ghost use Rattle.glob_text.specs.GlobMatches.{glob_matches};
 ghost use Rattle.glob_relations.specs.Answers.{AreDisjoint, IsCovered, IsMissed, IsShared};
 ghost use Rattle.glob_relations.specs.Shortest.{IsShortest};
 
@@ -50,8 +51,8 @@ fn missed(
 ) -> Result<Option<Vec<u8>>, Fault>
     ensures { IfOk result
         (λ found. MatchOption found
-        (IsCovered glob.now others.now domain)
-        (λ path. IsShortest (IsMissed glob.now others.now domain) path.items)) }
+        (IsCovered glob_matches glob.now others.now domain)
+        (λ path. IsShortest (IsMissed glob_matches glob.now others.now domain) path.items)) }
 {
     match covering(alloc, glob, others, domain, LIMIT)? {
         Coverage::Covered => Ok(None),

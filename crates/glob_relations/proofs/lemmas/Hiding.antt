@@ -7,17 +7,16 @@ use Rattle.std.proofs.Math.Logic.{⊎_elim}
 use Rattle.bit_sets.specs.Texts.{AllBytes}
 use Rattle.byte_nfa.specs.Steps.{NfaValue, IsReached}
 use Rattle.ignore_pattern.specs.Patterns.{Pattern, pattern_matches}
-use Rattle.ignore_pattern.specs.Compared.{IndexedPattern, SomeMatchFor, Compares}
-use Rattle.glob_relations.specs.Patterns.{patterns_at, some_pattern_matches}
+use Rattle.glob_relations.specs.Answers.{some_match}
 use Rattle.glob_relations.specs.Rules.{IsRival, IsDecided, IsDecidedAlone, IgnoresFolder, IsHiddenBy, IsHidden}
 use Rattle.glob_relations.specs.declared.domain.Domain.{Domain}
 use Rattle.glob_relations.specs.declared.search.Question.{Question}
 use Rattle.glob_relations.specs.inner.Closed.{IsClosed, IsClosedBy, IsClosedAbove, IsOpen, ignores_of}
-use Rattle.glob_relations.specs.inner.Compared.{indexed_all, indexed_rules, numbered}
-use Rattle.glob_relations.specs.inner.Finding.{FindsEach, FindsFrom}
+use Rattle.glob_relations.specs.Unused.{items_at}
+use Rattle.glob_relations.specs.inner.Automata.{SomeMatches, IsFor, FindsEach, FindsFrom, indexed_rules, numbered, under}
 use Rattle.glob_relations.specs.inner.Rows.{IsAskedText, IsWantedBy, IsWantedText}
 use Rattle.glob_relations.proofs.lemmas.Finding.{MatchesFrom, numbered_there, numbered_back}
-use Rattle.glob_relations.proofs.lemmas.Patterns.{some_there, some_back, wanted_missed}
+use Rattle.glob_relations.proofs.lemmas.Automata.{some_there, some_back, wanted_missed}
 use Rattle.glob_relations.proofs.lemmas.Rivals.{missed_decided}
 use Rattle.glob_relations.proofs.lemmas.Rows.{get_some}
 
@@ -88,12 +87,12 @@ all_left [] ys all = tt
 all_left (x ∷ xs) ys (lt, rest) = (lt, all_left xs ys rest)
 
 -- from each index that an automaton finds, from the number itself
-pub finds_from : (ignore_case : Bool) (ps : List Pattern) (m : NfaValue) → FindsEach ignore_case ps m → FindsFrom ignore_case 0 ps m
+pub finds_from : (ignore_case : Bool) (ps : List Pattern) (m : NfaValue) → FindsEach (pattern_matches ignore_case) ps m → FindsFrom (pattern_matches ignore_case) 0 ps m
 finds_from ignore_case ps m finds k p path at bytes =
     let same : k ≡ 0 + k = omega arith in
     subst (λ (j : ℕ). IsReached m path j ↔ IsTrue (pattern_matches ignore_case p path)) same (finds k p path at bytes)
 
-module _ (ignore_case : Bool) (first : ℕ) (ps : List Pattern) (m : NfaValue) (finds : FindsFrom ignore_case first ps m) where
+module _ (ignore_case : Bool) (first : ℕ) (ps : List Pattern) (m : NfaValue) (finds : FindsFrom (pattern_matches ignore_case) first ps m) where
   -- an automaton is closed after an ignored folder
   closed_ignores : (folder : List ℕ) → AllBytes folder → (k : ℕ) → IsClosedBy (ignores_of ps) first (IsReached m folder) k ↔ IgnoresFolder ignore_case ps folder k
   closed_ignores folder bytes k = (
@@ -129,61 +128,61 @@ module _ (ignore_case : Bool) (first : ℕ) (ps : List Pattern) (m : NfaValue) (
 
 -- ---- an automaton for a rule, its rivals and all rules
 
-module _ (ignore_case : Bool) (path : List ℕ) (k : ℕ) where
-  match_left : (xs ys : List IndexedPattern) → SomeMatchFor ignore_case xs path k → SomeMatchFor ignore_case (xs ++ ys) path k
+module _ {A : Type 0} (matches : A → List ℕ → Bool) (path : List ℕ) (k : ℕ) where
+  match_left : (xs ys : List (A × ℕ)) → SomeMatches matches xs path k → SomeMatches matches (xs ++ ys) path k
   match_left [] ys h = absurd h
   match_left (x ∷ xs) ys (inl this) = inl this
   match_left (x ∷ xs) ys (inr other) = inr (match_left xs ys other)
 
-  match_right : (xs ys : List IndexedPattern) → SomeMatchFor ignore_case ys path k → SomeMatchFor ignore_case (xs ++ ys) path k
+  match_right : (xs ys : List (A × ℕ)) → SomeMatches matches ys path k → SomeMatches matches (xs ++ ys) path k
   match_right [] ys h = h
   match_right (x ∷ xs) ys h = inr (match_right xs ys h)
 
-  match_cases : (xs ys : List IndexedPattern) → SomeMatchFor ignore_case (xs ++ ys) path k → SomeMatchFor ignore_case xs path k ⊎ SomeMatchFor ignore_case ys path k
+  match_cases : (xs ys : List (A × ℕ)) → SomeMatches matches (xs ++ ys) path k → SomeMatches matches xs path k ⊎ SomeMatches matches ys path k
   match_cases [] ys h = inr h
   match_cases (x ∷ xs) ys (inl this) = inl (inl this)
-  match_cases (x ∷ xs) ys (inr other) = ⊎_elim {C = SomeMatchFor ignore_case (x ∷ xs) path k ⊎ SomeMatchFor ignore_case ys path k} (λ h. inl (inr h)) (λ h. inr h) (match_cases xs ys other)
+  match_cases (x ∷ xs) ys (inr other) = ⊎_elim {C = SomeMatches matches (x ∷ xs) path k ⊎ SomeMatches matches ys path k} (λ h. inl (inr h)) (λ h. inr h) (match_cases xs ys other)
 
-module _ (ignore_case : Bool) (p : Pattern) (by ps : List Pattern) (m : NfaValue) (is : Compares ignore_case (indexed_rules p by ps) m) where
-  reaches : (path : List ℕ) (k : ℕ) → AllBytes path → IsReached m path k ↔ SomeMatchFor ignore_case (indexed_rules p by ps) path k
+module _ {A : Type 0} (matches : A → List ℕ → Bool) (p : A) (by ps : List A) (m : NfaValue) (is : IsFor matches (indexed_rules p by ps) m) where
+  reaches : (path : List ℕ) (k : ℕ) → AllBytes path → IsReached m path k ↔ SomeMatches matches (indexed_rules p by ps) path k
   reaches path k bytes = is m.states (λ s low high. refl) path k bytes
 
   -- the three ways to an index
-  ways : (C : Type 0) (path : List ℕ) (k : ℕ) → AllBytes path → IsReached m path k → (0 ≡ k → IsTrue (pattern_matches ignore_case p path) → C) → (1 ≡ k → IsTrue (some_pattern_matches ignore_case by path) → C)
-      → (MatchesFrom ignore_case 2 ps path k → C) → C
+  ways : (C : Type 0) (path : List ℕ) (k : ℕ) → AllBytes path → IsReached m path k → (0 ≡ k → IsTrue (matches p path) → C) → (1 ≡ k → IsTrue (some_match matches by path) → C)
+      → (MatchesFrom matches 2 ps path k → C) → C
   ways C path k bytes reach mine other all = ⊎_elim {C = C}
       (λ (e, h). mine e h)
       (λ rest. ⊎_elim {C = C}
-      (λ there. let (e, h) = some_back ignore_case path 1 by k there in other e h)
-      (λ there. all (numbered_back ignore_case path 2 k ps there))
-      (match_cases ignore_case path k (indexed_all 1 by) (numbered 2 ps) rest))
+      (λ there. let (e, h) = some_back matches path 1 by k there in other e h)
+      (λ there. all (numbered_back matches path 2 k ps there))
+      (match_cases matches path k (under 1 by) (numbered 2 ps) rest))
       ((reaches path k bytes).0 reach)
 
-  reaches_mine : (path : List ℕ) → AllBytes path → IsReached m path 0 ↔ IsTrue (pattern_matches ignore_case p path)
+  reaches_mine : (path : List ℕ) → AllBytes path → IsReached m path 0 ↔ IsTrue (matches p path)
   reaches_mine path bytes = (
-    λ reach. ways (IsTrue (pattern_matches ignore_case p path)) path 0 bytes reach (λ e h. h) (λ e h. absurd (omega arith)) (λ (j, e, rest). absurd (omega arith)),
+    λ reach. ways (IsTrue (matches p path)) path 0 bytes reach (λ e h. h) (λ e h. absurd (omega arith)) (λ (j, e, rest). absurd (omega arith)),
     λ h. (reaches path 0 bytes).1 (inl (refl, h)),
   )
 
-  reaches_other : (path : List ℕ) → AllBytes path → IsReached m path 1 ↔ IsTrue (some_pattern_matches ignore_case by path)
+  reaches_other : (path : List ℕ) → AllBytes path → IsReached m path 1 ↔ IsTrue (some_match matches by path)
   reaches_other path bytes = (
-    λ reach. ways (IsTrue (some_pattern_matches ignore_case by path)) path 1 bytes reach (λ e h. absurd (omega arith)) (λ e h. h) (λ (j, e, rest). absurd (omega arith)),
-    λ h. (reaches path 1 bytes).1 (inr (match_left ignore_case path 1 (indexed_all 1 by) (numbered 2 ps) (some_there ignore_case path 1 by h))),
+    λ reach. ways (IsTrue (some_match matches by path)) path 1 bytes reach (λ e h. absurd (omega arith)) (λ e h. h) (λ (j, e, rest). absurd (omega arith)),
+    λ h. (reaches path 1 bytes).1 (inr (match_left matches path 1 (under 1 by) (numbered 2 ps) (some_there matches path 1 by h))),
   )
 
-  finds_rules : FindsFrom ignore_case 2 ps m
+  finds_rules : FindsFrom matches 2 ps m
   finds_rules k q path at bytes = (
-    λ reach. ways (IsTrue (pattern_matches ignore_case q path)) path (2 + k) bytes reach (λ e h. absurd (omega arith)) (λ e h. absurd (omega arith))
-        (λ (j, e, (r, there, matches)).
+    λ reach. ways (IsTrue (matches q path)) path (2 + k) bytes reach (λ e h. absurd (omega arith)) (λ e h. absurd (omega arith))
+        (λ (j, e, (r, there, h)).
         let same : j ≡ k = omega arith in
         let is_q : r ≡ q = let here = sym there ∙ ap (slice_get ps) same ∙ at in cc in
-        subst (λ (x : Pattern). IsTrue (pattern_matches ignore_case x path)) is_q matches),
-    λ h. (reaches path (2 + k) bytes).1 (inr (match_right ignore_case path (2 + k) (indexed_all 1 by) (numbered 2 ps) (numbered_there ignore_case path 2 k ps q at h))),
+        subst (λ (x : A). IsTrue (matches x path)) is_q h),
+    λ h. (reaches path (2 + k) bytes).1 (inr (match_right matches path (2 + k) (under 1 by) (numbered 2 ps) (numbered_there matches path 2 k ps q at h))),
   )
 
 -- the paths that the search wants are those about which the rule decides
 pub asked_decided : (ignore_case : Bool) (ps : List Pattern) (i : ℕ) (p : Pattern) (domain : Domain) (others : List ℕ) (all : (k : ℕ) → Contains others k ↔ IsRival ps i p k) (m : NfaValue) (n : Question)
-    → Compares ignore_case (indexed_rules p (patterns_at ps others) ps) m → n.required ≡ 1 → n.ignores.items ≡ ignores_of ps → (path : List ℕ) → IsAskedText m n domain path ↔ IsDecided ignore_case ps i p domain path
+    → IsFor (pattern_matches ignore_case) (indexed_rules p (items_at ps others) ps) m → n.required ≡ 1 → n.ignores.items ≡ ignores_of ps → (path : List ℕ) → IsAskedText m n domain path ↔ IsDecided ignore_case ps i p domain path
 asked_decided ignore_case ps i p domain others all m n is required ignores path = (
   λ (bytes, (ends, wanted, clear)). (
     alone.0 (bytes, (ends, subst (λ (r : ℕ). IsWantedBy r (IsReached m path)) required wanted)),
@@ -201,13 +200,13 @@ asked_decided ignore_case ps i p domain others all m n is required ignores path 
 )
   where
     by : List Pattern
-    by = patterns_at ps others
+    by = items_at ps others
 
     shows : AllBytes path → IsOpen (ignores_of ps) 2 (IsReached m) path ↔ (IsHidden ignore_case ps path → ⊥)
-    shows bytes = open_shows ignore_case 2 ps m (finds_rules ignore_case p by ps m is) path bytes
+    shows bytes = open_shows ignore_case 2 ps m (finds_rules (pattern_matches ignore_case) p by ps m is) path bytes
 
     alone : IsWantedText m 1 domain path ↔ IsDecidedAlone ignore_case ps i p domain path
     alone =
-        let wanted = wanted_missed ignore_case m p by domain path (reaches_mine ignore_case p by ps m is path) (reaches_other ignore_case p by ps m is path) in
+        let wanted = wanted_missed (pattern_matches ignore_case) m p by domain path (reaches_mine (pattern_matches ignore_case) p by ps m is path) (reaches_other (pattern_matches ignore_case) p by ps m is path) in
         let decided = missed_decided ignore_case ps i p domain others all path in
         (λ h. decided.0 (wanted.0 h), λ h. wanted.1 (decided.1 h))

@@ -1,6 +1,6 @@
 -- Lists of indexes, and which of them are left out.
 use Rattle.std.proofs.Common.{◌≡◌, ◌≢◌, ℕ, zero, suc, ◌+◌, ◌<◌, ◌≤◌, ◌⊎◌, inl, inr, List, [], ◌∷◌, ◌++◌, length, take, drop, refl, ap, sym, subst, ◌∙◌, arith}
-use Rattle.std.specs.Prelude.{IfOk, Contains, Result, Ok, Err, slice_index, slice_index_or}
+use Rattle.std.specs.Prelude.{IfOk, OnOk, Contains, Result, Ok, Err, slice_index, slice_index_or}
 use Rattle.std.specs.List.{range_with_len}
 use Rattle.std.proofs.lemmas.List.Elements.{Contains-append_left, Contains-append_right, Contains-append_cases}
 use Rattle.std.proofs.Math.Logic.{⊎_elim}
@@ -130,3 +130,7 @@ range_below a (suc n) k (suc i, lt, is) = let low = range_below (a + 1) n k (i, 
 pub if_ok_more : {X E : Type 0} (P Q : X → Type 0) (r : Result X E) → ((x : X) → P x → Q x) → IfOk r P → IfOk r Q
 if_ok_more P Q (Ok x) more is = more x is
 if_ok_more P Q (Err e) more is = is
+
+pub on_ok_more : {X E : Type 0} (P Q : Type 0) (r : Result X E) → (P → Q) → OnOk r P → OnOk r Q
+on_ok_more P Q (Ok x) more is = more is
+on_ok_more P Q (Err e) more is = is

@@ -22,17 +22,17 @@ Matches gs path = (h : GlobValue) × Contains gs h × IsTrue (glob_matches h pat
 later : {X : Type 0} (y : X) (xs : List X) (x : X) → Contains xs x → Contains (y ∷ xs) x
 later y xs x (i, lt, is) = (suc i, omega arith, is)
 
-match_there : (gs : List GlobValue) (path : List ℕ) (h : GlobValue) → Contains gs h → IsTrue (glob_matches h path) → IsTrue (some_match gs path)
+match_there : (gs : List GlobValue) (path : List ℕ) (h : GlobValue) → Contains gs h → IsTrue (glob_matches h path) → IsTrue (some_match glob_matches gs path)
 match_there [] path h (i, lt, is) m = absurd (omega arith)
-match_there (g ∷ gs) path h (zero, lt, is) m = or_first (glob_matches g path) (some_match gs path) (subst (λ (x : GlobValue). IsTrue (glob_matches x path)) (sym is) m)
-match_there (g ∷ gs) path h (suc i, lt, is) m = or_second (glob_matches g path) (some_match gs path) (match_there gs path h (i, omega arith, is) m)
+match_there (g ∷ gs) path h (zero, lt, is) m = or_first (glob_matches g path) (some_match glob_matches gs path) (subst (λ (x : GlobValue). IsTrue (glob_matches x path)) (sym is) m)
+match_there (g ∷ gs) path h (suc i, lt, is) m = or_second (glob_matches g path) (some_match glob_matches gs path) (match_there gs path h (i, omega arith, is) m)
 
-match_back : (gs : List GlobValue) (path : List ℕ) → IsTrue (some_match gs path) → Matches gs path
+match_back : (gs : List GlobValue) (path : List ℕ) → IsTrue (some_match glob_matches gs path) → Matches gs path
 match_back [] path h = absurd (true≢false (sym h))
 match_back (g ∷ gs) path h = ⊎_elim {C = Matches (g ∷ gs) path}
     (λ this. (g, (0, omega arith, refl), this))
     (λ other. let (x, at, m) = match_back gs path other in (x, later g gs x at, m))
-    (or_cases (glob_matches g path) (some_match gs path) h)
+    (or_cases (glob_matches g path) (some_match glob_matches gs path) h)
 
 pub covers_itself : CoversItself
 covers_itself g domain path inside matched = or_first (glob_matches g path) false matched
@@ -82,15 +82,15 @@ reports_none gs path none = no_number (matching_indexes gs path) (λ k at. let (
         held (y ∷ xs) (suc n) x at = later y xs x (held xs n x at)
 
 -- a glob that is not excluded and matches is reported
-included_reports : (gs : List GlobValue) (path : List ℕ) → IsTrue (some_match (included gs) path) → Reports gs path
+included_reports : (gs : List GlobValue) (path : List ℕ) → IsTrue (some_match glob_matches (included gs) path) → Reports gs path
 included_reports [] path h = absurd (true≢false (sym h))
 included_reports (g ∷ gs) path h = by (λ other. let (x, at, m) = included_reports gs path other in (x, later g gs x at, m)) (not (excluded g)) refl h
   where
-    by : (IsTrue (some_match (included gs) path) → Reports (g ∷ gs) path) → (b : Bool) → not (excluded g) ≡ b → IsTrue (some_match (cond b (g ∷ included gs) (included gs)) path) → Reports (g ∷ gs) path
+    by : (IsTrue (some_match glob_matches (included gs) path) → Reports (g ∷ gs) path) → (b : Bool) → not (excluded g) ≡ b → IsTrue (some_match glob_matches (cond b (g ∷ included gs) (included gs)) path) → Reports (g ∷ gs) path
     by others true is h' = ⊎_elim {C = Reports (g ∷ gs) path}
         (λ this. (g, (0, omega arith, refl), and_both (not (excluded g)) (glob_matches g path) is this))
         others
-        (or_cases (glob_matches g path) (some_match (included gs) path) h')
+        (or_cases (glob_matches g path) (some_match glob_matches (included gs) path) h')
     by others false is h' = others h'
 
 pub covered_is_not_needed : CoveredIsNotNeeded

@@ -1,61 +1,72 @@
-use Rattle.std.proofs.Common.{ℕ, ◌<◌, List, length, sym, subst}
-use Rattle.std.specs.Prelude.{IsFalse, Contains}
-use Rattle.glob_text.specs.GlobMatches.{GlobValue}
-use Rattle.glob_relations.specs.Answers.{IsMissed, some_match}
+use Rattle.std.proofs.Common.{ℕ, ◌<◌, List, [], length, IsTrue, refl, subst}
+use Rattle.std.specs.Prelude.{◌↔◌, IsFalse, Contains}
+use Rattle.bit_sets.specs.Indexes.{has_index}
+use Rattle.byte_nfa.specs.Steps.{IsReached}
+use Rattle.glob_relations.specs.Answers.{IsMissed}
+use Rattle.glob_relations.specs.Unused.{items_at}
 use Rattle.glob_relations.specs.Shortest.{IsShortest}
-use Rattle.glob_relations.specs.Unused.{globs_at}
+use Rattle.glob_relations.proofs.lemmas.Finding.{none_found, not_found_alone}
 use Rattle.glob_relations.proofs.lemmas.Indexes.{split_taken, rest_is}
-use Rattle.glob_relations.proofs.lemmas.Unused.{shortest_missed}
+use Rattle.glob_relations.proofs.lemmas.Unused.{missed_uncovered, shortest_missed}
 use Rattle.glob_relations.proofs.unused.decide.Goals as goal
 
-pub place_of_match-requires : goal.place_of_match-requires
-place_of_match-requires c = λ k at.
-    subst (λ (ms : List GlobValue). k < length ms) (sym c.requires.matchers)
-    (c.requires.within k (c.loop-rest.invariant.split.late k (subst (λ (xs : List ℕ). Contains xs k) c.deref.ensures.value at)))
-
-pub returns-in_default-clause-told : goal.returns-in_default-clause-told
-returns-in_default-clause-told c =
-    let gs : List GlobValue = c.args.globs.now in
-    let ms : List GlobValue = c.args.matchers.now in
+pub returns-in_default : goal.returns-in_default
+returns-in_default g c =
+    let xs : List g.row.T.Denot = c.args.items.now in
+    let m = c.args.automaton.now in
     let rest = c.loop-rest.rest.items in
     let path = c.loop-rest.path.items in
-    let told = rw c.in_default.is at c.in_ok-place.ensures.place in
-    let none : IsFalse (some_match (globs_at gs rest) path) =
-    subst (λ (xs : List GlobValue). IsFalse (some_match (globs_at xs rest) path)) c.requires.matchers
-    (subst (λ (xs : List ℕ). IsFalse (some_match (globs_at ms xs) path)) c.deref.ensures.value
-    (subst (λ (p : List ℕ). IsFalse (some_match (globs_at ms c.deref.result.now) p)) c.deref-in-loop-rest.ensures.value told)) in
-    shortest_missed gs c.args.glob.now c.args.domain c.loop-rest.by.items rest c.args.others.now path c.loop-rest.invariant.split.early c.loop-rest.invariant.split.all c.loop-rest.invariant.path none
+    let set = c.in_ok-found.found in
+    let inv = c.loop-rest.invariant in
+    let found : (k : ℕ) → IsTrue (has_index set k) ↔ IsReached m path k = subst (λ (l : List ℕ). (k : ℕ) → IsTrue (has_index set k) ↔ IsReached m l k) c.deref.ensures.value c.in_ok-found.ensures in
+    let off : (k : ℕ) → Contains rest k → IsFalse (has_index set k) = subst (λ (l : List ℕ). (k : ℕ) → Contains l k → IsFalse (has_index set k)) c.deref-in-loop-rest.ensures.value (rw c.in_default.is at c.place_of_found.ensures) in
+    shortest_missed (g.T.Compared.matches c.args.options) xs c.args.item.now c.args.domain c.loop-rest.by.items rest c.args.others.now path inv.split.early inv.split.all inv.path
+    (none_found (g.T.Compared.matches c.args.options) xs m c.args.domain path set c.requires.finds inv.path.0.0 found rest off)
+
+pub cover-requires-clause-some : goal.cover-requires-clause-some
+cover-requires-clause-some g c =
+    let (inside, matched, off) = c.loop-rest.invariant.path.0 in
+    missed_uncovered (g.T.Compared.matches c.args.options) c.args.item.now [] c.args.domain c.loop-rest.path.items (inside, matched, refl)
+
+pub cover-requires-clause-found : goal.cover-requires-clause-found
+cover-requires-clause-found g c =
+    let xs : List g.row.T.Denot = c.args.items.now in
+    let m = c.args.automaton.now in
+    let set = c.in_ok-found.found in
+    let inv = c.loop-rest.invariant in
+    let found : (k : ℕ) → IsTrue (has_index set k) ↔ IsReached m c.loop-rest.path.items k = subst (λ (l : List ℕ). (k : ℕ) → IsTrue (has_index set k) ↔ IsReached m l k) c.deref.ensures.value c.in_ok-found.ensures in
+    not_found_alone (g.T.Compared.matches c.args.options) xs m c.args.domain c.loop-rest.path.items set c.requires.finds inv.path.0.0 found c.args.item.now (items_at xs c.loop-rest.by.items) inv.path.0
 
 pub covering_at-requires : goal.covering_at-requires
-covering_at-requires c = λ k at.
+covering_at-requires g c = λ k at.
     let rest = c.loop-rest.rest.items in
     let place = c.in-Some.place in
-    let within = rw c.in-Some.is at c.in_ok-place.ensures.place in
-    let lt : place < length rest = subst (λ (xs : List ℕ). place < length xs) c.deref.ensures.value within in
+    let within = rw c.in-Some.is at c.place_of_found.ensures in
+    let lt : place < length rest = subst (λ (xs : List ℕ). place < length xs) c.deref-in-loop-rest.ensures.value within in
     let fewer = rest_is c.in_ok-rest-2.rest.items rest c.deref-in-loop-rest-2.result.now place c.deref-in-loop-rest-2.ensures.value c.in_ok-rest-2.ensures in
     let split = split_taken c.args.others.now c.loop-rest.by.items rest c.push.new.self.items c.in_ok-rest-2.rest.items place c.index.result.now lt c.in_ok-push.ensures.items c.index.ensures fewer c.loop-rest.invariant.split in
     c.requires.within k (split.early k (subst (λ (xs : List ℕ). Contains xs k) c.deref-in-loop-rest-3.ensures.value at))
 
 pub loop-rest-preserved : goal.loop-rest-preserved
-loop-rest-preserved c =
+loop-rest-preserved g c =
     let rest = c.loop-rest.rest.items in
     let place = c.in-Some.place in
-    let within = rw c.in-Some.is at c.in_ok-place.ensures.place in
-    let lt : place < length rest = subst (λ (xs : List ℕ). place < length xs) c.deref.ensures.value within in
+    let within = rw c.in-Some.is at c.place_of_found.ensures in
+    let lt : place < length rest = subst (λ (xs : List ℕ). place < length xs) c.deref-in-loop-rest.ensures.value within in
     let fewer = rest_is c.in_ok-rest-2.rest.items rest c.deref-in-loop-rest-2.result.now place c.deref-in-loop-rest-2.ensures.value c.in_ok-rest-2.ensures in
-    let ok = rw c.in-Not.is at c.in_ok-covering_at.ensures.ok in
+    let ok = rw c.in-Not.is at c.in_ok-covering_at.ensures in
     record {
       split = split_taken c.args.others.now c.loop-rest.by.items rest c.push.new.self.items c.in_ok-rest-2.rest.items place c.index.result.now lt c.in_ok-push.ensures.items c.index.ensures fewer c.loop-rest.invariant.split;
-      path = subst (λ (xs : List ℕ). IsShortest (IsMissed c.args.glob.now (globs_at c.args.globs.now xs) c.args.domain) c.in-Not.next.items) c.deref-in-loop-rest-3.ensures.value ok;
+      path = subst (λ (xs : List ℕ). IsShortest (IsMissed (g.T.Compared.matches c.args.options) c.args.item.now (items_at c.args.items.now xs) c.args.domain) c.in-Not.next.items) c.deref-in-loop-rest-3.ensures.value ok;
     }
 
-pub returns-in-Unknown-clause-told : goal.returns-in-Unknown-clause-told
-returns-in-Unknown-clause-told c =
+pub returns-in-Unknown : goal.returns-in-Unknown
+returns-in-Unknown g c =
     let rest = c.loop-rest.rest.items in
     let place = c.in-Some.place in
-    let within = rw c.in-Some.is at c.in_ok-place.ensures.place in
-    let lt : place < length rest = subst (λ (xs : List ℕ). place < length xs) c.deref.ensures.value within in
+    let within = rw c.in-Some.is at c.place_of_found.ensures in
+    let lt : place < length rest = subst (λ (xs : List ℕ). place < length xs) c.deref-in-loop-rest.ensures.value within in
     let fewer = rest_is c.in_ok-rest-2.rest.items rest c.deref-in-loop-rest-2.result.now place c.deref-in-loop-rest-2.ensures.value c.in_ok-rest-2.ensures in
     let split = split_taken c.args.others.now c.loop-rest.by.items rest c.push.new.self.items c.in_ok-rest-2.rest.items place c.index.result.now lt c.in_ok-push.ensures.items c.index.ensures fewer c.loop-rest.invariant.split in
-    let ok = rw c.in-Unknown.is at c.in_ok-covering_at.ensures.ok in
+    let ok = rw c.in-Unknown.is at c.in_ok-covering_at.ensures in
     (c.deref-in-loop-rest-3.result.now, λ k at. split.early k (subst (λ (xs : List ℕ). Contains xs k) c.deref-in-loop-rest-3.ensures.value at), ok)

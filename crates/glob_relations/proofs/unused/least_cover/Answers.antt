@@ -1,69 +1,67 @@
-use Rattle.std.proofs.Common.{ℕ, List, ◌++◌, sym, ap, subst, ◌∙◌, arith}
+use Rattle.std.proofs.Common.{ℕ, List, sym, subst, ◌∙◌, arith}
 use Rattle.std.specs.Prelude.{Contains}
 use Rattle.glob_relations.specs.Answers.{IsCovered}
-use Rattle.glob_relations.specs.Unused.{globs_at}
+use Rattle.glob_relations.specs.Unused.{items_at}
 use Rattle.glob_relations.proofs.lemmas.Indexes.{rest_is, contains_rest, length_rest}
 use Rattle.glob_relations.proofs.lemmas.Unused.{IsCoverTo, cover_first, cover_fewer, cover_kept, cover_least, missed_uncovered}
 use Rattle.glob_relations.proofs.unused.least_cover.Goals as goal
 
 pub covering_at-requires : goal.covering_at-requires
-covering_at-requires c = λ k at.
+covering_at-requires g c = λ k at.
     let set = c.loop-i.set.items in
     let fewer = rest_is c.in_ok-fewer.fewer.items set c.deref.result.now c.loop-i.i c.deref.ensures.value c.in_ok-fewer.ensures in
     c.requires.within k (c.loop-i.invariant.cover.within k (contains_rest set c.loop-i.i k (subst (λ (xs : List ℕ). Contains xs k) (c.deref-in-loop-i.ensures.value ∙ fewer) at)))
 
 pub loop-i-init : goal.loop-i-init
-loop-i-init c =
-    let items = c.in_ok-extend_from_slice.ensures.items ∙ ap (λ (xs : List ℕ). xs ++ c.args.by.now) c.new-set.ensures.items in
-    record {
-      within = omega arith;
-      cover = subst (λ (xs : List ℕ). IsCoverTo c.args.globs.now c.args.glob.now c.args.others.now c.args.domain xs 0) (sym items)
-          (cover_first c.args.globs.now c.args.glob.now c.args.others.now c.args.by.now c.args.domain c.requires.by c.requires.covered);
-    }
+loop-i-init g c = record {
+  within = omega arith;
+  cover = subst (λ (xs : List ℕ). IsCoverTo (g.T.Compared.matches c.args.options) c.args.items.now c.args.item.now c.args.others.now c.args.domain xs 0) (sym c.in_ok-set.ensures.items)
+      (cover_first (g.T.Compared.matches c.args.options) c.args.items.now c.args.item.now c.args.others.now c.args.by.now c.args.domain c.requires.by c.requires.covered);
+}
 
 pub loop-i-preserved-in-Covered : goal.loop-i-preserved-in-Covered
-loop-i-preserved-in-Covered c =
-    let gs = c.args.globs.now in
-    let g = c.args.glob.now in
+loop-i-preserved-in-Covered g c =
+    let all = c.args.items.now in
+    let x = c.args.item.now in
     let domain = c.args.domain in
     let set = c.loop-i.set.items in
     let i = c.loop-i.i in
     let fewer = rest_is c.in_ok-fewer.fewer.items set c.deref.result.now i c.deref.ensures.value c.in_ok-fewer.ensures in
-    let ok = rw c.in-Covered.is at c.in_ok-covering_at.ensures.ok in
+    let ok = rw c.in-Covered.is at c.in_ok-covering_at.ensures in
     let len = length_rest set i (omega arith) in
     record {
       within = rw fewer (omega arith);
-      cover = subst (λ (xs : List ℕ). IsCoverTo gs g c.args.others.now domain xs i) (sym fewer)
-          (cover_fewer gs g c.args.others.now domain set i (omega arith) c.loop-i.invariant.cover
-          (subst (λ (xs : List ℕ). IsCovered g (globs_at gs xs) domain) (c.deref-in-loop-i.ensures.value ∙ fewer) ok));
+      cover = subst (λ (xs : List ℕ). IsCoverTo (g.T.Compared.matches c.args.options) all x c.args.others.now domain xs i) (sym fewer)
+          (cover_fewer (g.T.Compared.matches c.args.options) all x c.args.others.now domain set i (omega arith) c.loop-i.invariant.cover
+          (subst (λ (xs : List ℕ). IsCovered (g.T.Compared.matches c.args.options) x (items_at all xs) domain) (c.deref-in-loop-i.ensures.value ∙ fewer) ok));
     }
 
 pub loop-i-preserved : goal.loop-i-preserved
-loop-i-preserved c =
-    let gs = c.args.globs.now in
-    let g = c.args.glob.now in
+loop-i-preserved g c =
+    let all = c.args.items.now in
+    let x = c.args.item.now in
     let domain = c.args.domain in
     let set = c.loop-i.set.items in
     let i = c.loop-i.i in
     let now = c.deref-in-loop-i.result.now in
     let fewer = rest_is c.in_ok-fewer.fewer.items set c.deref.result.now i c.deref.ensures.value c.in_ok-fewer.ensures in
-    let ok = rw c.in-Not.is at c.in_ok-covering_at.ensures.ok in
+    let ok = rw c.in-Not.is at c.in_ok-covering_at.ensures in
     record {
       within = omega arith;
-      cover = cover_kept gs g c.args.others.now domain set i (omega arith) c.loop-i.invariant.cover
-          (λ covered. missed_uncovered g (globs_at gs now) domain c.in-Not.field-0.items ok.0
-          (subst (λ (xs : List ℕ). IsCovered g (globs_at gs xs) domain) (sym (c.deref-in-loop-i.ensures.value ∙ fewer)) covered));
+      cover = cover_kept (g.T.Compared.matches c.args.options) all x c.args.others.now domain set i (omega arith) c.loop-i.invariant.cover
+          (λ covered. missed_uncovered (g.T.Compared.matches c.args.options) x (items_at all now) domain c.in-Not.field-0.items ok.0
+          (subst (λ (xs : List ℕ). IsCovered (g.T.Compared.matches c.args.options) x (items_at all xs) domain) (sym (c.deref-in-loop-i.ensures.value ∙ fewer)) covered));
     }
 
-pub returns-in-Unknown-clause-told : goal.returns-in-Unknown-clause-told
-returns-in-Unknown-clause-told c =
+pub returns-in-Unknown : goal.returns-in-Unknown
+returns-in-Unknown g c =
     let set = c.loop-i.set.items in
     let fewer = rest_is c.in_ok-fewer.fewer.items set c.deref.result.now c.loop-i.i c.deref.ensures.value c.in_ok-fewer.ensures in
-    let ok = rw c.in-Unknown.is at c.in_ok-covering_at.ensures.ok in (
+    let ok = rw c.in-Unknown.is at c.in_ok-covering_at.ensures in (
       c.deref-in-loop-i.result.now,
       λ k at. c.loop-i.invariant.cover.within k (contains_rest set c.loop-i.i k (subst (λ (xs : List ℕ). Contains xs k) (c.deref-in-loop-i.ensures.value ∙ fewer) at)),
       ok,
     )
 
-pub returns-clause-told : goal.returns-clause-told
-returns-clause-told c = cover_least c.args.globs.now c.args.glob.now c.args.others.now c.args.domain c.loop-i.set.items c.loop-i.i (omega arith) c.loop-i.invariant.cover c.requires.single
+pub returns : goal.returns
+returns g c = cover_least (g.T.Compared.matches c.args.options) c.args.items.now c.args.item.now c.args.others.now c.args.domain c.loop-i.set.items c.loop-i.i (omega arith) c.loop-i.invariant.cover c.requires.single
