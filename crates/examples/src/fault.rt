@@ -5,6 +5,7 @@ use std::alloc::{AllocError, AllocFailed, Global};
 use std::{fmt, io};
 
 /// Why a command ends early. It is printed without the command's name.
+#[derive(Drop)]
 pub enum Fault {
     /// The arguments are not as the usage has them.
     Usage,
@@ -33,17 +34,6 @@ impl Fault {
         match text {
             Ok(text) => Fault::Text(text),
             Err(_) => Fault::OutOfMemory,
-        }
-    }
-}
-
-impl Drop for Fault {
-    fn drop(self) {
-        match self {
-            Fault::Usage | Fault::OutOfMemory => {}
-            Fault::Arguments(_) | Fault::Input(_) | Fault::Output(_) => {}
-            Fault::Text(_) => {}
-            Fault::Glob(_) => {}
         }
     }
 }

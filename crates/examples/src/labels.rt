@@ -4,18 +4,10 @@ use globset::{Error, Glob, GlobSetBuilder, Searcher};
 use std::alloc::Global;
 
 /// The globs of a file, and for each of them a label: what the file says of the paths that it matches.
+#[derive(Drop)]
 pub struct Labels<'t> {
     globs: GlobSetBuilder,
     labels: Vec<&'t str>,
-}
-
-impl Drop for Labels<'_> {
-    fn drop(self) {
-        let Labels {
-            globs: _,
-            labels: _,
-        } = self;
-    }
 }
 
 impl<'t> Labels<'t> {

@@ -15,14 +15,9 @@ pub fn read_input(rt: &HostRuntime) -> Result<Vec<u8>, Fault> {
 }
 
 /// Lines that are written to standard output at once, so that an error before leaves nothing written.
+#[derive(Drop)]
 pub struct Output {
     bytes: Vec<u8>,
-}
-
-impl Drop for Output {
-    fn drop(self) {
-        let Output { bytes: _ } = self;
-    }
 }
 
 impl Output {

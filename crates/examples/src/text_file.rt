@@ -12,15 +12,10 @@ use std::{fs, str};
 const BYTE_ORDER_MARK: &[u8] = b"\xef\xbb\xbf";
 
 /// A file, and its name.
+#[derive(Drop)]
 pub struct TextFile {
     name: String,
     bytes: Vec<u8>,
-}
-
-impl Drop for TextFile {
-    fn drop(self) {
-        let TextFile { name: _, bytes: _ } = self;
-    }
 }
 
 impl TextFile {

@@ -15,15 +15,10 @@ use std::fmt;
 use std::process::ExitCode;
 
 /// The lines that are found about a file.
+#[derive(Drop)]
 pub struct Findings<'a> {
     file: &'a str,
     output: Output,
-}
-
-impl Drop for Findings<'_> {
-    fn drop(self) {
-        let Findings { file: _, output: _ } = self;
-    }
 }
 
 impl<'a> Findings<'a> {

@@ -18,18 +18,10 @@ pub struct IgnoreRule<'t> {
 }
 
 /// The rules of an ignore file, and the pattern of each, in the order of the lines.
+#[derive(Drop)]
 pub struct IgnoreRules<'t> {
     pub rules: Vec<IgnoreRule<'t>>,
     pub patterns: Vec<IgnorePattern>,
-}
-
-impl Drop for IgnoreRules<'_> {
-    fn drop(self) {
-        let IgnoreRules {
-            rules: _,
-            patterns: _,
-        } = self;
-    }
 }
 
 impl<'t> IgnoreRules<'t> {

@@ -20,15 +20,10 @@ pub struct Rule<'t> {
 }
 
 /// The rules of an owners file, and all their globs, in the order of the lines.
+#[derive(Drop)]
 pub struct Rules<'t> {
     pub rules: Vec<Rule<'t>>,
     pub globs: Vec<Glob>,
-}
-
-impl Drop for Rules<'_> {
-    fn drop(self) {
-        let Rules { rules: _, globs: _ } = self;
-    }
 }
 
 impl<'t> Rules<'t> {

@@ -8,6 +8,7 @@ use globset::{Candidate, Error, Glob, GlobSet, Searcher};
 use std::alloc::Global;
 
 /// Whether a rule ever decides about a path.
+#[derive(Drop)]
 pub enum Use {
     /// It decides about some path.
     Decides,
@@ -16,15 +17,6 @@ pub enum Use {
     Never(Vec<usize>),
     /// The limit was reached.
     Unknown,
-}
-
-impl Drop for Use {
-    fn drop(self) {
-        match self {
-            Use::Decides | Use::Unknown => {}
-            Use::Never(_) => {}
-        }
-    }
 }
 
 /// Returns for each rule whether it ever decides about a path.

@@ -46,6 +46,7 @@ enum Next {
 }
 
 /// The arguments of a search.
+#[derive(Drop)]
 pub struct Arguments<'a> {
     pub flags: Flags,
     /// The names of the files of globs.
@@ -55,18 +56,6 @@ pub struct Arguments<'a> {
     /// The directory, and then globs.
     pub words: Vec<&'a str>,
     next: Next,
-}
-
-impl Drop for Arguments<'_> {
-    fn drop(self) {
-        let Arguments {
-            flags: _,
-            files: _,
-            excludes: _,
-            words: _,
-            next: _,
-        } = self;
-    }
 }
 
 impl<'a> Arguments<'a> {

@@ -16,14 +16,9 @@ pub struct Wanted {
 }
 
 /// A set of globs, and all the memory that it is matched with.
+#[derive(Drop)]
 pub struct Globs {
     searcher: Searcher,
-}
-
-impl Drop for Globs {
-    fn drop(self) {
-        let Globs { searcher: _ } = self;
-    }
 }
 
 impl Globs {

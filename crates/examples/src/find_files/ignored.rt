@@ -7,14 +7,9 @@ use std::fs::{self, FileType};
 use std::io;
 
 /// The ignore files of the walk's current directory and of the directories above it, if they are wanted.
+#[derive(Drop)]
 pub struct Ignored {
     stack: Option<IgnoreStack>,
-}
-
-impl Drop for Ignored {
-    fn drop(self) {
-        let Ignored { stack: _ } = self;
-    }
 }
 
 impl Ignored {

@@ -17,6 +17,7 @@ use std::io::{self, BufWriter, ErrorKind, Write};
 use std::process::ExitCode;
 
 /// A walk through a tree of directories.
+#[derive(Drop)]
 pub struct Walk {
     globs: Globs,
     ignored: Ignored,
@@ -32,22 +33,6 @@ pub struct Walk {
     has_printed: bool,
     /// Whether something could not be read.
     has_failed: bool,
-}
-
-impl Drop for Walk {
-    fn drop(self) {
-        let Walk {
-            globs: _,
-            ignored: _,
-            flags: _,
-            pending: _,
-            skipped: _,
-            opened: _,
-            left_closed: _,
-            has_printed: _,
-            has_failed: _,
-        } = self;
-    }
 }
 
 impl Walk {

@@ -8,16 +8,11 @@ use std::alloc::{AllocError, Global};
 /// The directory of the last path, with the rules of its ignore files and of those of the directories above it.
 ///
 /// A directory is decided, and its files are read, when the walk goes into it. For paths in the order of a walk this is once.
+#[derive(Drop)]
 pub struct Walk {
     stack: IgnoreStack,
     /// The files of all directories. Those of deeper directories come last.
     files: Vec<TextFile>,
-}
-
-impl Drop for Walk {
-    fn drop(self) {
-        let Walk { stack: _, files: _ } = self;
-    }
 }
 
 impl Walk {
