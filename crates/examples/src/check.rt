@@ -17,9 +17,11 @@ use crate::fault::Fault;
 use crate::streams::print_text;
 use crate::text_file::TextFile;
 use findings::Findings;
+use glob_relations::{Domain, unreachable_rules};
 use ignoring::{IgnoreRules, is_ignore_file};
 use rules::Rules;
 use std::process::ExitCode;
+use unused::uses;
 
 pub const COMMAND: Command = Command {
     name: "check",
@@ -62,7 +64,7 @@ fn check(rt: &HostRuntime, name: &str, overlaps: bool) -> Result<ExitCode, Fault
     if overlaps {
         findings.push_overlaps(rt.alloc(), &rules)?;
     } else {
-        findings.push_unused(rt.alloc(), &rules)?;
+        findings.push_unused(rt.alloc(), &rules.lines, &uses(rt.alloc(), &rules)?)?;
     }
     findings.write(rt)
 }
@@ -70,8 +72,10 @@ fn check(rt: &HostRuntime, name: &str, overlaps: bool) -> Result<ExitCode, Fault
 /// Prints the rules of an ignore file that never decide.
 fn check_ignore_file(rt: &HostRuntime, name: &str) -> Result<ExitCode, Fault> {
     let file = TextFile::read(rt, name)?;
-    let rules = IgnoreRules::read(rt.alloc(), &file)?;
+    let IgnoreRules { lines, patterns } = IgnoreRules::read(rt.alloc(), &file)?;
+    let domain = Domain::RelativePaths;
+    let found = unreachable_rules(rt.alloc(), &patterns, false, domain, LIMIT)?;
     let mut findings = Findings::new(rt.alloc(), &file);
-    findings.push_unused_ignoring(rt.alloc(), &rules)?;
+    findings.push_unused(rt.alloc(), &lines, &found)?;
     findings.write(rt)
 }

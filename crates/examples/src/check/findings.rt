@@ -1,18 +1,24 @@
 //! What is found about the rules of a file, a line each.
 
-use super::LIMIT;
-use super::ignoring::IgnoreRules;
 use super::overlaps::common;
-use super::rules::{Rule, Rules};
-use super::unused::{Use, uses};
+use super::rules::Rules;
 use crate::fault::Fault;
 use crate::shown::Shown;
 use crate::streams::Output;
 use crate::text_file::TextFile;
-use glob_relations::{Domain, Intersection, RuleReachability, unreachable_rules};
+use glob_relations::{Intersection, RuleReachability};
 use std::alloc::{AllocError, Global};
 use std::fmt;
 use std::process::ExitCode;
+
+/// The line of a rule, as it is printed.
+#[derive(Clone, Copy)]
+pub struct RuleLine<'t> {
+    /// Its number, counted from 1.
+    pub number: usize,
+    /// The rule's text.
+    pub text: &'t [u8],
+}
 
 /// The lines that are found about a file.
 #[derive(Drop)]
@@ -31,44 +37,25 @@ impl<'a> Findings<'a> {
     }
 
     /// Adds each rule that never decides, and each that may never decide.
-    pub fn push_unused(&mut self, alloc: Global, rules: &Rules<'_>) -> Result<(), Fault> {
-        let uses = uses(alloc, rules)?;
-        for (rule, found) in rules.rules.iter().zip(&uses) {
-            match found {
-                Use::Decides => {}
-                Use::Never(by) => {
-                    let lines = lines(alloc, rules, by)?;
-                    self.push(alloc, *rule, "never decides: ", Covering(&lines))?;
-                }
-                Use::Unknown => self.push(alloc, *rule, "may never decide: ", "unknown")?,
-            }
-        }
-        Ok(())
-    }
-
-    /// Adds each rule of an ignore file that never decides, and each that may never decide.
-    pub fn push_unused_ignoring(
+    pub fn push_unused(
         &mut self,
         alloc: Global,
-        rules: &IgnoreRules<'_>,
+        rules: &[RuleLine<'_>],
+        found: &[RuleReachability],
     ) -> Result<(), Fault> {
-        let domain = Domain::RelativePaths;
-        let found = unreachable_rules(alloc, &rules.patterns, false, domain, LIMIT)?;
-        for (rule, found) in rules.rules.iter().zip(&found) {
+        for (rule, found) in rules.iter().zip(found) {
             match found {
                 RuleReachability::Decides(_) => {}
                 RuleReachability::Never(by) => {
-                    let lines = ignoring_lines(alloc, rules, by)?;
-                    let covering = Covering(&lines);
-                    self.push_line(alloc, rule.line, rule.text, "never decides: ", covering)?;
+                    let numbers = numbers(alloc, rules, by)?;
+                    self.push(alloc, *rule, "never decides: ", Covering(&numbers))?;
                 }
                 RuleReachability::Hidden(by) => {
-                    let lines = ignoring_lines(alloc, rules, &[*by])?;
-                    let hiding = Hiding(&lines);
-                    self.push_line(alloc, rule.line, rule.text, "never decides: ", hiding)?;
+                    let numbers = numbers(alloc, rules, &[*by])?;
+                    self.push(alloc, *rule, "never decides: ", Hiding(&numbers))?;
                 }
                 RuleReachability::Unknown => {
-                    self.push_line(alloc, rule.line, rule.text, "may never decide: ", "unknown")?;
+                    self.push(alloc, *rule, "may never decide: ", "unknown")?;
                 }
             }
         }
@@ -77,9 +64,10 @@ impl<'a> Findings<'a> {
 
     /// Adds each pair of rules that match a path in common, or may.
     pub fn push_overlaps(&mut self, alloc: Global, rules: &Rules<'_>) -> Result<(), Fault> {
-        for (i, rule) in rules.rules.iter().enumerate() {
-            for later in rules.rules.iter().skip(i + 1) {
-                self.push_overlap(alloc, rules, *rule, *later)?;
+        for (i, rule) in rules.lines.iter().enumerate() {
+            for (j, later) in rules.lines.iter().enumerate().skip(i + 1) {
+                let found = common(alloc, rules, i, j)?;
+                self.push_overlap(alloc, *rule, *later, found)?;
             }
         }
         Ok(())
@@ -89,17 +77,17 @@ impl<'a> Findings<'a> {
     fn push_overlap(
         &mut self,
         alloc: Global,
-        rules: &Rules<'_>,
-        rule: Rule<'_>,
-        later: Rule<'_>,
+        rule: RuleLine<'_>,
+        later: RuleLine<'_>,
+        found: Intersection,
     ) -> Result<(), Fault> {
-        let (relation, path) = match common(alloc, rules, rule, later)? {
+        let (relation, path) = match found {
             Intersection::Disjoint => return Ok(()),
             Intersection::Both(path) => ("overlaps ", path),
             Intersection::Unknown => ("may overlap ", b"unknown".to_vec(alloc)?),
         };
-        let (pattern, path) = (Shown(later.pattern.as_bytes()), Shown(&path));
-        let pair = format!(in alloc; "line {}, {pattern}: {path}", later.line)?;
+        let (text, path) = (Shown(later.text), Shown(&path));
+        let pair = format!(in alloc; "line {}, {text}: {path}", later.number)?;
         self.push(alloc, rule, relation, pair.as_str())
     }
 
@@ -107,25 +95,12 @@ impl<'a> Findings<'a> {
     fn push(
         &mut self,
         alloc: Global,
-        rule: Rule<'_>,
+        rule: RuleLine<'_>,
         relation: &str,
         what: impl fmt::Display + Drop,
     ) -> Result<(), Fault> {
-        self.push_line(alloc, rule.line, rule.pattern.as_bytes(), relation, what)
-    }
-
-    /// Adds a line about the rule of a line, which is printed by its text.
-    fn push_line(
-        &mut self,
-        alloc: Global,
-        number: usize,
-        text: &[u8],
-        relation: &str,
-        what: impl fmt::Display + Drop,
-    ) -> Result<(), Fault> {
-        let text = Shown(text);
-        let file = Shown(self.file.as_bytes());
-        let line = format!(in alloc; "{file}:{number}: {text} {relation}{what}")?;
+        let (file, text) = (Shown(self.file.as_bytes()), Shown(rule.text));
+        let line = format!(in alloc; "{file}:{}: {text} {relation}{what}", rule.number)?;
         self.output.push_line(&[line.as_bytes()])?;
         Ok(())
     }
@@ -177,29 +152,17 @@ impl fmt::Display for Hiding<'_> {
 }
 
 /// Returns the numbers of the lines of the rules with these indexes, in ascending order.
-fn lines(alloc: Global, rules: &Rules<'_>, indexes: &[usize]) -> Result<Vec<usize>, AllocError> {
-    let mut lines = Vec::new(alloc);
-    for index in indexes {
-        if let Some(rule) = rules.rules.get(*index) {
-            lines.push(rule.line)?;
-        }
-    }
-    lines.sort_unstable();
-    Ok(lines)
-}
-
-/// Returns the numbers of the lines of the rules with these indexes, of an ignore file, in ascending order.
-fn ignoring_lines(
+fn numbers(
     alloc: Global,
-    rules: &IgnoreRules<'_>,
+    rules: &[RuleLine<'_>],
     indexes: &[usize],
 ) -> Result<Vec<usize>, AllocError> {
-    let mut lines = Vec::new(alloc);
+    let mut numbers = Vec::new(alloc);
     for index in indexes {
-        if let Some(rule) = rules.rules.get(*index) {
-            lines.push(rule.line)?;
+        if let Some(rule) = rules.get(*index) {
+            numbers.push(rule.number)?;
         }
     }
-    lines.sort_unstable();
-    Ok(lines)
+    numbers.sort_unstable();
+    Ok(numbers)
 }

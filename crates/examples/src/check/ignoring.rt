@@ -1,5 +1,6 @@
 //! The rules of an ignore file.
 
+use super::findings::RuleLine;
 use crate::lines::Lines;
 use crate::text_file::TextFile;
 use git_ignore::{RulePatterns, rule_patterns};
@@ -9,34 +10,30 @@ use std::alloc::{AllocError, Global};
 /// The names that ignore files have.
 const NAMES: [&str; 2] = [".gitignore", ".ignore"];
 
-/// Where a rule is, and its line, without a carriage return at the end.
-#[derive(Clone, Copy)]
-pub struct IgnoreRule<'t> {
-    /// The number of its line, counted from 1.
-    pub line: usize,
-    pub text: &'t [u8],
-}
-
-/// The rules of an ignore file, and the pattern of each, in the order of the lines.
+/// The lines of the rules of an ignore file, and the pattern of each, in the order of the lines.
 #[derive(Drop)]
 pub struct IgnoreRules<'t> {
-    pub rules: Vec<IgnoreRule<'t>>,
+    /// The text of a line is without a carriage return at its end.
+    pub lines: Vec<RuleLine<'t>>,
     pub patterns: Vec<IgnorePattern>,
 }
 
 impl<'t> IgnoreRules<'t> {
     /// Reads an ignore file. A line that git cannot read has no rule.
     pub fn read(alloc: Global, file: &'t TextFile) -> Result<IgnoreRules<'t>, AllocError> {
-        let RulePatterns { patterns, lines } = rule_patterns(alloc, file.bytes())?;
-        let mut rules = Vec::new(alloc);
+        let RulePatterns {
+            patterns,
+            lines: numbers,
+        } = rule_patterns(alloc, file.bytes())?;
+        let mut lines = Vec::new(alloc);
         for (i, line) in Lines::new(file.text(), b'\n').enumerate() {
             let number = i.saturating_add(1);
-            if lines.get(rules.len()) == Some(&number) {
+            if numbers.get(lines.len()) == Some(&number) {
                 let text = line.strip_suffix(b"\r").unwrap_or(line);
-                rules.push(IgnoreRule { line: number, text })?;
+                lines.push(RuleLine { number, text })?;
             }
         }
-        Ok(IgnoreRules { rules, patterns })
+        Ok(IgnoreRules { lines, patterns })
     }
 }
 

@@ -1,19 +1,14 @@
 //! Rules that match a path in common.
 
 use super::LIMIT;
-use super::rules::{Rule, Rules};
+use super::rules::Rules;
 use glob_relations::{Domain, Intersection, overlap};
 use globset::Error;
 use std::alloc::Global;
 
 /// Returns a shortest path that both of two rules match, or that there is none, or that the limit was reached before one was
 /// found.
-pub fn common(
-    alloc: Global,
-    rules: &Rules<'_>,
-    a: Rule<'_>,
-    b: Rule<'_>,
-) -> Result<Intersection, Error> {
+pub fn common(alloc: Global, rules: &Rules<'_>, a: usize, b: usize) -> Result<Intersection, Error> {
     let mut found = Intersection::Disjoint;
     for first in rules.globs_of(a) {
         for second in rules.globs_of(b) {

@@ -1,5 +1,6 @@
 //! The rules of an owners file, with their globs.
 
+use super::findings::RuleLine;
 use crate::command::Command;
 use crate::fault::Fault;
 use crate::owner_rule::OwnerRule;
@@ -8,22 +9,14 @@ use crate::text_file::TextFile;
 use globset::{Error, Glob};
 use std::alloc::{AllocError, Global};
 
-/// A rule, and which of the globs of all rules are its own.
-#[derive(Clone, Copy)]
-pub struct Rule<'t> {
-    /// The number of its line, counted from 1.
-    pub line: usize,
-    /// Its pattern.
-    pub pattern: &'t str,
-    start: usize,
-    end: usize,
-}
-
-/// The rules of an owners file, and all their globs, in the order of the lines.
+/// The rules of an owners file, and all their globs, in the order of the lines. An index names a rule.
 #[derive(Drop)]
 pub struct Rules<'t> {
-    pub rules: Vec<Rule<'t>>,
+    /// The line of each rule.
+    pub lines: Vec<RuleLine<'t>>,
     pub globs: Vec<Glob>,
+    /// For each rule the index of its first glob.
+    starts: Vec<usize>,
 }
 
 impl<'t> Rules<'t> {
@@ -35,8 +28,9 @@ impl<'t> Rules<'t> {
         command: Command,
     ) -> Result<Option<Rules<'t>>, Fault> {
         let mut rules = Rules {
-            rules: Vec::new(rt.alloc()),
+            lines: Vec::new(rt.alloc()),
             globs: Vec::new(rt.alloc()),
+            starts: Vec::new(rt.alloc()),
         };
         let mut is_right = true;
         for (i, line) in file.lines(rt.alloc())?.iter().enumerate() {
@@ -53,39 +47,47 @@ impl<'t> Rules<'t> {
     }
 
     /// Adds a rule, if it has a pattern.
-    fn push(&mut self, line: usize, pattern: &'t str, globs: Vec<Glob>) -> Result<(), AllocError> {
+    fn push(
+        &mut self,
+        number: usize,
+        pattern: &'t str,
+        globs: Vec<Glob>,
+    ) -> Result<(), AllocError> {
         if pattern.is_empty() {
             return Ok(());
         }
-        let start = self.globs.len();
+        let text = pattern.as_bytes();
+        self.lines.push(RuleLine { number, text })?;
+        self.starts.push(self.globs.len())?;
         for glob in globs {
             self.globs.push(glob)?;
         }
-        let end = self.globs.len();
-        self.rules.push(Rule {
-            line,
-            pattern,
-            start,
-            end,
-        })?;
         Ok(())
     }
 
     /// Returns the globs of a rule.
-    pub fn globs_of(&self, rule: Rule<'_>) -> &[Glob] {
-        self.globs.get(rule.start..rule.end).unwrap_or(&[])
+    pub fn globs_of(&self, rule: usize) -> &[Glob] {
+        self.globs
+            .get(self.start_of(rule)..self.end_of(rule))
+            .unwrap_or(&[])
     }
 
     /// Returns the globs of all later rules.
-    pub fn globs_after(&self, rule: Rule<'_>) -> &[Glob] {
-        self.globs.get(rule.end..).unwrap_or(&[])
+    pub fn globs_after(&self, rule: usize) -> &[Glob] {
+        self.globs.get(self.end_of(rule)..).unwrap_or(&[])
     }
-}
 
-impl Rule<'_> {
     /// Returns whether the glob with an index, among those of all rules, is the rule's own.
-    pub fn has(self, index: usize) -> bool {
-        (self.start..self.end).contains(&index)
+    pub fn has(&self, rule: usize, glob: usize) -> bool {
+        (self.start_of(rule)..self.end_of(rule)).contains(&glob)
+    }
+
+    fn start_of(&self, rule: usize) -> usize {
+        self.starts.get(rule).copied().unwrap_or(self.globs.len())
+    }
+
+    fn end_of(&self, rule: usize) -> usize {
+        self.start_of(rule.saturating_add(1))
     }
 }
 

@@ -2,97 +2,67 @@
 
 use super::LIMIT;
 use super::overlaps::common;
-use super::rules::{Rule, Rules};
-use glob_relations::{Coverage, Domain, Intersection, covering};
+use super::rules::Rules;
+use glob_relations::{Coverage, Domain, Intersection, RuleReachability, covering};
 use globset::{Candidate, Error, Glob, GlobSet, Searcher};
 use std::alloc::Global;
 
-/// Whether a rule ever decides about a path.
-#[derive(Drop)]
-pub enum Use {
-    /// It decides about some path.
-    Decides,
-    /// The rules with these indexes match each path that it matches. None of them can be left out. If one rule does alone, it is
-    /// the only one.
-    Never(Vec<usize>),
-    /// The limit was reached.
-    Unknown,
-}
-
-/// Returns for each rule whether it ever decides about a path.
-pub fn uses(alloc: Global, rules: &Rules<'_>) -> Result<Vec<Use>, Error> {
+/// Returns for each rule whether it ever decides: a path about which it does, or the indexes of the rules that match each path
+/// that it matches. None of these can be left out. If one rule does alone, it is the only one.
+pub fn uses(alloc: Global, rules: &Rules<'_>) -> Result<Vec<RuleReachability>, Error> {
     let mut searcher = Searcher::new(alloc, &GlobSet::new(alloc, &rules.globs)?)?;
     let mut uses = Vec::new(alloc);
-    for (index, rule) in rules.rules.iter().enumerate() {
-        let found = if decides_short_path(alloc, rules, *rule, &mut searcher)? {
-            Use::Decides
-        } else {
-            use_of(alloc, rules, index, *rule)?
+    for rule in 0..rules.lines.len() {
+        let found = match decided_short_path(alloc, rules, rule, &mut searcher)? {
+            Some(path) => RuleReachability::Decides(path),
+            None => use_of(alloc, rules, rule)?,
         };
         uses.push(found)?;
     }
     Ok(uses)
 }
 
-/// Returns whether a rule decides about a shortest path that one of its globs matches. This needs no search through the states of
-/// the other rules.
-fn decides_short_path(
+/// Returns a path about which a rule decides, if one of the shortest paths that its globs match is one. This needs no search
+/// through the states of the other rules.
+fn decided_short_path(
     alloc: Global,
     rules: &Rules<'_>,
-    rule: Rule<'_>,
+    rule: usize,
     searcher: &mut Searcher,
-) -> Result<bool, Error> {
+) -> Result<Option<Vec<u8>>, Error> {
     for glob in rules.globs_of(rule) {
         if let Coverage::Not(path) = covering(alloc, glob, &[], Domain::RelativePaths, LIMIT)? {
             searcher.find(&Candidate::from_bytes(&path));
-            if searcher.found().last().is_some_and(|last| rule.has(*last)) {
-                return Ok(true);
+            let last = searcher.found().last();
+            if last.is_some_and(|last| rules.has(rule, *last)) {
+                return Ok(Some(path));
             }
         }
     }
-    Ok(false)
+    Ok(None)
 }
 
 /// Returns whether a rule ever decides, by all later rules.
-fn use_of(alloc: Global, rules: &Rules<'_>, index: usize, rule: Rule<'_>) -> Result<Use, Error> {
-    let mut is_known = true;
-    for glob in rules.globs_of(rule) {
-        match covering(
-            alloc,
-            glob,
-            rules.globs_after(rule),
-            Domain::RelativePaths,
-            LIMIT,
-        )? {
-            Coverage::Covered => {}
-            Coverage::Not(_) => return Ok(Use::Decides),
-            Coverage::Unknown => is_known = false,
-        }
-    }
-    if is_known {
-        Ok(Use::Never(least(alloc, rules, index, rule)?))
-    } else {
-        Ok(Use::Unknown)
+fn use_of(alloc: Global, rules: &Rules<'_>, rule: usize) -> Result<RuleReachability, Error> {
+    match coverage(alloc, rules, rule, rules.globs_after(rule))? {
+        Coverage::Covered => Ok(RuleReachability::Never(least(alloc, rules, rule)?)),
+        Coverage::Not(path) => Ok(RuleReachability::Decides(path)),
+        Coverage::Unknown => Ok(RuleReachability::Unknown),
     }
 }
 
 /// Returns which of the later rules are needed to cover a rule that all of them cover. A search that reaches the limit leaves its
 /// rule among them.
-fn least(
-    alloc: Global,
-    rules: &Rules<'_>,
-    index: usize,
-    rule: Rule<'_>,
-) -> Result<Vec<usize>, Error> {
+fn least(alloc: Global, rules: &Rules<'_>, rule: usize) -> Result<Vec<usize>, Error> {
     if covers(alloc, rules, rule, &[])? {
         return Ok(Vec::new(alloc));
     }
-    for (other, later) in rules.rules.iter().enumerate().skip(index.saturating_add(1)) {
-        if covers(alloc, rules, rule, rules.globs_of(*later))? {
-            return Ok(Vec::from_array(alloc, [other])?);
+    for later in rule.saturating_add(1)..rules.lines.len() {
+        if covers(alloc, rules, rule, rules.globs_of(later))? {
+            return Ok(Vec::from_array(alloc, [later])?);
         }
     }
-    let mut least = overlapping(alloc, rules, index, rule)?;
+    let mut least = overlapping(alloc, rules, rule)?;
     for place in (0..least.len()).rev() {
         let fewer = globs_without(alloc, rules, &least, place)?;
         if covers(alloc, rules, rule, &fewer)? && place < least.len() {
@@ -103,35 +73,27 @@ fn least(
 }
 
 /// Returns the indexes of the later rules that match some path that a rule matches.
-fn overlapping(
-    alloc: Global,
-    rules: &Rules<'_>,
-    index: usize,
-    rule: Rule<'_>,
-) -> Result<Vec<usize>, Error> {
+fn overlapping(alloc: Global, rules: &Rules<'_>, rule: usize) -> Result<Vec<usize>, Error> {
     let mut found = Vec::new(alloc);
-    for (other, later) in rules.rules.iter().enumerate().skip(index.saturating_add(1)) {
-        match common(alloc, rules, rule, *later)? {
+    for later in rule.saturating_add(1)..rules.lines.len() {
+        match common(alloc, rules, rule, later)? {
             Intersection::Disjoint => {}
-            _ => found.push(other)?,
+            _ => found.push(later)?,
         }
     }
     Ok(found)
 }
 
-/// Returns copies of the globs of the rules with these indexes, without the index at a place.
+/// Returns copies of the globs of these rules, without the rule at a place.
 fn globs_without(
     alloc: Global,
     rules: &Rules<'_>,
-    indexes: &[usize],
+    chosen: &[usize],
     place: usize,
 ) -> Result<Vec<Glob>, Error> {
     let mut globs = Vec::new(alloc);
-    for (i, index) in indexes.iter().enumerate() {
-        if i == place {
-            continue;
-        }
-        if let Some(rule) = rules.rules.get(*index) {
+    for (i, rule) in chosen.iter().enumerate() {
+        if i != place {
             push_copies(&mut globs, rules.globs_of(*rule))?;
         }
     }
@@ -147,12 +109,24 @@ fn push_copies(to: &mut Vec<Glob>, globs: &[Glob]) -> Result<(), Error> {
 }
 
 /// Returns whether globs match each path that a rule matches, and the limit was not reached.
-fn covers(alloc: Global, rules: &Rules<'_>, rule: Rule<'_>, by: &[Glob]) -> Result<bool, Error> {
+fn covers(alloc: Global, rules: &Rules<'_>, rule: usize, by: &[Glob]) -> Result<bool, Error> {
+    Ok(matches!(coverage(alloc, rules, rule, by)?, Coverage::Covered))
+}
+
+/// Returns whether globs match each path that a rule matches: a path that they miss, if a search found one, and otherwise `Unknown`
+/// if a search reached the limit.
+fn coverage(alloc: Global, rules: &Rules<'_>, rule: usize, by: &[Glob]) -> Result<Coverage, Error> {
+    let mut is_known = true;
     for glob in rules.globs_of(rule) {
         match covering(alloc, glob, by, Domain::RelativePaths, LIMIT)? {
             Coverage::Covered => {}
-            _ => return Ok(false),
+            Coverage::Not(path) => return Ok(Coverage::Not(path)),
+            Coverage::Unknown => is_known = false,
         }
     }
-    Ok(true)
+    Ok(if is_known {
+        Coverage::Covered
+    } else {
+        Coverage::Unknown
+    })
 }
