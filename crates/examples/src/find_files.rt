@@ -13,7 +13,7 @@ use crate::fault::Fault;
 use crate::streams::print_text;
 use crate::text_file::TextFile;
 use arguments::Arguments;
-use globs::Globs;
+use globs::read_globs;
 use ignored::Ignored;
 use std::process::ExitCode;
 use walk::Walk;
@@ -58,11 +58,12 @@ pub fn run(rt: &HostRuntime, arguments: &[String]) -> Result<ExitCode, Fault> {
 
 /// Prints the paths that match, and returns the exit status.
 fn search(rt: &HostRuntime, arguments: &Arguments<'_>) -> Result<ExitCode, Fault> {
-    let globs = Globs::read(rt, arguments)?;
+    let globs = read_globs(rt, arguments)?;
     let mut ignored = Ignored::new(rt.alloc(), arguments.flags.ignored);
     for name in &arguments.excludes {
         ignored.add_excludes(TextFile::read(rt, name)?.bytes())?;
     }
     let folder = arguments.folder();
-    Walk::new(rt.alloc(), folder, globs, ignored, arguments.flags)?.run(rt)
+    let mut walk = Walk::new(rt.alloc(), folder, globs, ignored, arguments.flags)?;
+    walk.run(rt)
 }

@@ -16,23 +16,6 @@ pub struct Flags {
     pub version: bool,
 }
 
-impl Flags {
-    /// Turns on the option of this name. Returns whether there is such an option.
-    fn set(&mut self, name: &str) -> bool {
-        match name {
-            "-i" => self.case_insensitive = true,
-            "-s" => self.literal_separator = true,
-            "-0" => self.ends_in_nul = true,
-            "--count" => self.count = true,
-            "--ignored" => self.ignored = true,
-            "-h" | "--help" => self.help = true,
-            "--version" => self.version = true,
-            _ => return false,
-        }
-        true
-    }
-}
-
 /// The expected kind of the next argument.
 #[derive(Clone, Copy)]
 enum Next {
@@ -81,20 +64,17 @@ impl<'a> Arguments<'a> {
 
     /// Takes the next argument. Fails if it is an unknown option.
     fn push(&mut self, argument: &'a str) -> Result<(), Fault> {
-        let next = self.next;
         let is_option = argument.len() > 1 && argument.starts_with('-');
-        match next {
-            Next::Any if is_option => self.set(argument),
-            Next::Any | Next::Word => Ok(self.words.push(argument)?),
-            Next::File => {
-                self.next = Next::Any;
-                Ok(self.files.push(argument)?)
-            }
-            Next::Excludes => {
-                self.next = Next::Any;
-                Ok(self.excludes.push(argument)?)
-            }
+        match self.next {
+            Next::Any if is_option => return self.set(argument),
+            Next::Any | Next::Word => self.words.push(argument)?,
+            Next::File => self.files.push(argument)?,
+            Next::Excludes => self.excludes.push(argument)?,
         }
+        if let Next::File | Next::Excludes = self.next {
+            self.next = Next::Any;
+        }
+        Ok(())
     }
 
     /// Takes an argument that begins with `-`. Returns an error if it is an unknown option.
@@ -106,11 +86,14 @@ impl<'a> Arguments<'a> {
                 self.next = Next::Excludes;
             }
             "--" => self.next = Next::Word,
-            name => {
-                if !self.flags.set(name) {
-                    return Err(Fault::Usage);
-                }
-            }
+            "-i" => self.flags.case_insensitive = true,
+            "-s" => self.flags.literal_separator = true,
+            "-0" => self.flags.ends_in_nul = true,
+            "--count" => self.flags.count = true,
+            "--ignored" => self.flags.ignored = true,
+            "-h" | "--help" => self.flags.help = true,
+            "--version" => self.flags.version = true,
+            _ => return Err(Fault::Usage),
         }
         Ok(())
     }

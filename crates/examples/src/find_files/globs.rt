@@ -15,45 +15,33 @@ pub struct Wanted {
     pub is_folder: bool,
 }
 
-/// A set of globs, and all the memory that it is matched with.
-#[derive(Drop)]
-pub struct Globs {
-    searcher: Searcher,
-}
-
-impl Globs {
-    /// Reads the globs of the arguments, and of the files that they name; without any of them every path matches. Fails with the
-    /// error of the first text that is not a glob, or if a file cannot be read.
-    pub fn read(rt: &HostRuntime, arguments: &Arguments<'_>) -> Result<Globs, Fault> {
-        let alloc = rt.alloc();
-        let mut globs = GlobSetBuilder::new(alloc);
-        if !arguments.has_globs() {
-            globs.push(Glob::new(alloc, "**")?)?;
-        }
-        for text in arguments.words.iter().skip(1) {
-            globs.push(glob(alloc, text, arguments.flags)?)?;
-        }
-        for name in &arguments.files {
-            push_lines(
-                alloc,
-                &mut globs,
-                &TextFile::read(rt, name)?,
-                arguments.flags,
-            )?;
-        }
-        Ok(Globs {
-            searcher: Searcher::new(alloc, &globs.into_set()?)?,
-        })
-    }
-
+impl Wanted {
     /// Returns the actions of a walk for a path. It does not allocate.
-    pub fn wanted(&mut self, path: &str) -> Wanted {
+    pub fn of(globs: &mut Searcher, path: &str) -> Wanted {
         let path = Candidate::new(path);
         Wanted {
-            is_file: self.searcher.is_match(&path),
-            is_folder: self.searcher.can_match_below(&path),
+            is_file: globs.is_match(&path),
+            is_folder: globs.can_match_below(&path),
         }
     }
+}
+
+/// Reads the globs of the arguments, and of the files that they name; without any of them every path matches. Fails with the error
+/// of the first text that is not a glob, or if a file cannot be read.
+pub fn read_globs(rt: &HostRuntime, arguments: &Arguments<'_>) -> Result<Searcher, Fault> {
+    let alloc = rt.alloc();
+    let mut globs = GlobSetBuilder::new(alloc);
+    if !arguments.has_globs() {
+        globs.push(Glob::new(alloc, "**")?)?;
+    }
+    for text in arguments.words.iter().skip(1) {
+        globs.push(glob(alloc, text, arguments.flags)?)?;
+    }
+    for name in &arguments.files {
+        let file = TextFile::read(rt, name)?;
+        push_lines(alloc, &mut globs, &file, arguments.flags)?;
+    }
+    Ok(Searcher::new(alloc, &globs.into_set()?)?)
 }
 
 /// Adds the globs of the lines of a file. Fails with the line if a text is not a glob.

@@ -8,9 +8,10 @@
 
 use super::COMMAND;
 use super::arguments::Flags;
-use super::globs::{Globs, Wanted};
+use super::globs::Wanted;
 use super::ignored::Ignored;
 use crate::fault::Fault;
+use globset::Searcher;
 use std::alloc::{AllocError, Global};
 use std::fs::{self, DirEntry, FileType, ReadDir};
 use std::io::{self, BufWriter, ErrorKind, Write};
@@ -19,7 +20,7 @@ use std::process::ExitCode;
 /// A walk through a tree of directories.
 #[derive(Drop)]
 pub struct Walk {
-    globs: Globs,
+    globs: Searcher,
     ignored: Ignored,
     flags: Flags,
     /// The paths of files to print and of directories to open, the next path last. Paths of directories end in `/`. Each path
@@ -40,7 +41,7 @@ impl Walk {
     pub fn new(
         alloc: Global,
         folder: &str,
-        globs: Globs,
+        globs: Searcher,
         ignored: Ignored,
         flags: Flags,
     ) -> Result<Walk, AllocError> {
@@ -64,7 +65,7 @@ impl Walk {
     /// Walks, and prints the paths that match. Returns the exit status.
     ///
     /// Entries that cannot be read are left out, with an error on standard error. Fails if standard output cannot be written.
-    pub fn run(mut self, rt: &HostRuntime) -> Result<ExitCode, Fault> {
+    pub fn run(&mut self, rt: &HostRuntime) -> Result<ExitCode, Fault> {
         let mut output = BufWriter::new(rt.alloc(), io::writer(rt)).map_err(Fault::Output)?;
         for _ in 0..u64::MAX {
             let Some(path) = self.pending.pop() else {
@@ -107,11 +108,8 @@ impl Walk {
             return self.open(rt, path);
         }
         self.left_closed = self.left_closed.saturating_add(1);
-        if self
-            .globs
-            .wanted(below.strip_suffix('/').unwrap_or(below))
-            .is_file
-        {
+        let name = below.strip_suffix('/').unwrap_or(below);
+        if Wanted::of(&mut self.globs, name).is_file {
             self.print(below, output)?;
         }
         Ok(())
@@ -163,7 +161,7 @@ impl Walk {
     fn take(&mut self, rt: &HostRuntime, entry: &DirEntry) -> Result<(), Fault> {
         let path = entry.path().as_str();
         let shown = self.shown(path);
-        let wanted = self.globs.wanted(shown);
+        let wanted = Wanted::of(&mut self.globs, shown);
         if !wanted.is_file && !wanted.is_folder && !self.flags.count {
             return Ok(());
         }
