@@ -17,6 +17,7 @@ mod command;
 mod fault;
 mod file_types;
 mod find_files;
+mod folders;
 mod ignore_lines;
 mod labels;
 mod lines;
@@ -54,15 +55,10 @@ fn main(rt: HostRuntime) -> ExitCode {
 
 /// Returns the arguments without the program's name. Fails if an argument is not UTF-8.
 fn read_arguments(rt: &HostRuntime) -> Result<Vec<String>, Fault> {
-    let given = match env::args(rt) {
-        Ok(given) => given,
-        Err(error) => return Err(Fault::Arguments(error)),
-    };
-    let mut arguments = Vec::new(rt.alloc());
-    for argument in given.skip(1) {
-        arguments.push(argument)?;
+    match env::args(rt) {
+        Ok(given) => Ok(given.skip(1).collect(rt.alloc())?),
+        Err(error) => Err(Fault::Arguments(error)),
     }
-    Ok(arguments)
 }
 
 /// Executes the arguments, and returns the exit status.

@@ -60,10 +60,10 @@ impl TextFile {
     pub fn lines(&self, alloc: Global) -> Result<Vec<&str>, Fault> {
         let mut lines = Vec::new(alloc);
         for line in Lines::new(self.text(), b'\n') {
-            let Some(text) = text_of(line) else {
-                return Err(self.fault(alloc, lines.len() + 1, line, "not UTF-8"));
-            };
-            lines.push(text)?;
+            match str::from_utf8(line) {
+                Ok(text) => lines.push(text.strip_suffix('\r').unwrap_or(text))?,
+                Err(_) => return Err(self.fault(alloc, lines.len() + 1, line, "not UTF-8")),
+            }
         }
         Ok(lines)
     }
@@ -82,13 +82,5 @@ impl TextFile {
         let file = Shown(self.name.as_bytes());
         let (text, reason) = (Shown(text), Shown(reason.as_bytes()));
         Fault::text(format!(in alloc; "{file}: line {number}: {text}: {reason}"))
-    }
-}
-
-/// Returns the text of a line without CR at its end, or `None` if it is not UTF-8.
-fn text_of(line: &[u8]) -> Option<&str> {
-    match str::from_utf8(line) {
-        Ok(text) => Some(text.strip_suffix('\r').unwrap_or(text)),
-        Err(_) => None,
     }
 }

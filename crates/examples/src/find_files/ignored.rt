@@ -1,6 +1,7 @@
 //! What ignore files leave out of a walk.
 
 use crate::fault::Fault;
+use crate::folders::go_up;
 use git_ignore::IgnoreStack;
 use std::alloc::{AllocError, Global};
 use std::fs::{self, FileType};
@@ -15,12 +16,9 @@ pub struct Ignored {
 impl Ignored {
     /// Returns a state without ignore files, which leaves out nothing.
     pub fn new(alloc: Global, is_asked: bool) -> Ignored {
-        let stack = if is_asked {
-            Some(IgnoreStack::new(alloc))
-        } else {
-            None
-        };
-        Ignored { stack }
+        Ignored {
+            stack: is_asked.then(|| IgnoreStack::new(alloc)),
+        }
     }
 
     /// Takes an ignore file of the first directory, before this is entered: later files take precedence.
@@ -59,7 +57,9 @@ impl Ignored {
         let Some(stack) = &mut self.stack else {
             return Ok(None);
         };
-        go_to(stack, below.as_bytes())?;
+        if let Some(name) = go_up(stack, below.as_bytes()).strip_suffix(b"/") {
+            stack.enter(name)?;
+        }
         if below.is_empty() {
             if let Some(error) = add_file(rt, stack, folder, ".git/info/exclude")? {
                 return Ok(Some(error));
@@ -78,21 +78,6 @@ impl Ignored {
             return Ok(true);
         }
         Ok(stack.decide(name, is_folder)?.is_ignored())
-    }
-}
-
-/// Goes up to the first common directory, and from there down to this directory. Its path is empty, or ends in `/`.
-fn go_to(stack: &mut IgnoreStack, folder: &[u8]) -> Result<(), AllocError> {
-    for _ in 0..u64::MAX {
-        if folder.starts_with(stack.folder()) {
-            break;
-        }
-        stack.leave();
-    }
-    let rest = folder.get(stack.folder().len()..).unwrap_or(&[]);
-    match rest.strip_suffix(b"/") {
-        Some(name) => stack.enter(name),
-        None => Ok(()),
     }
 }
 
@@ -118,8 +103,5 @@ fn add_file(
 
 /// Returns whether there is a file at a path, and no link.
 fn is_file(rt: &HostRuntime, path: &str) -> bool {
-    match fs::symlink_metadata(rt, path) {
-        Ok(metadata) => metadata.is_file(),
-        Err(_) => false,
-    }
+    fs::symlink_metadata(rt, path).is_ok_and(|metadata| metadata.is_file())
 }

@@ -1,5 +1,6 @@
 //! A walk over the directories of paths, with the ignore files of each.
 
+use crate::folders::go_up;
 use crate::text_file::TextFile;
 use git_ignore::{DecideBy, DecidingRule, IgnoreStack, RulesBuilder};
 use memchr::memrchr;
@@ -49,7 +50,7 @@ impl Walk {
         path: &[u8],
         is_folder: bool,
     ) -> Result<Option<DecidingRule>, AllocError> {
-        let below = self.go_up(path);
+        let below = go_up(&mut self.stack, path);
         let name = match memrchr(b'/', below) {
             Some(end) => {
                 for name in below[..end].split(|byte| *byte == b'/') {
@@ -83,18 +84,5 @@ impl Walk {
             }
         }
         Ok(())
-    }
-
-    /// Goes up to the deepest directory that the path is below, and returns the path from there.
-    fn go_up<'a>(&mut self, path: &'a [u8]) -> &'a [u8] {
-        let folder = self.stack.folder();
-        let same = folder.iter().zip(path).take_while(|(a, b)| a == b).count();
-        let kept = memrchr(b'/', &folder[..same]).map_or(0, |at| at + 1);
-        let levels = folder[kept..].iter().filter(|byte| **byte == b'/').count();
-        for _ in 0..levels {
-            self.stack.leave();
-        }
-        // What is left is a directory above the path.
-        path.strip_prefix(self.stack.folder()).unwrap_or(path)
     }
 }
