@@ -423,13 +423,5 @@ fn read(alloc: Global, columns: &mut Columns<'_>) -> Result<Result<Glob, Error>,
 }
 
 fn are_options(options: &str) -> bool {
-    if options == "-" {
-        return true;
-    }
-    for c in options.chars() {
-        if !"iseubw".contains(c) {
-            return false;
-        }
-    }
-    !options.is_empty()
+    options == "-" || !options.is_empty() && options.chars().all(|c| "iseubw".contains(c))
 }

@@ -2,7 +2,7 @@
 
 ghost use Rattle.std.specs.Prelude.{◌<◌};
 
-use crate::measure::measured::{Limits, Measured};
+use crate::measure::measured::Measured;
 use anyhow::Result;
 use globset::{Candidate, Error, GlobMatcher, GlobSet, Searcher};
 
@@ -10,17 +10,17 @@ use globset::{Candidate, Error, GlobMatcher, GlobSet, Searcher};
 pub trait Asked {
     /// Returns how many matches it finds.
     fn ask(&mut self, path: &str) -> Result<usize, Error>;
+
+    /// Returns how many calls it makes for a path.
+    fn calls(&self) -> usize {
+        1
+    }
 }
 
 /// `GlobSet::is_match_candidate`.
-#[derive(Drop)]
-pub struct Any {
-    pub set: GlobSet,
-}
-
-impl Asked for Any {
+impl Asked for GlobSet {
     fn ask(&mut self, path: &str) -> Result<usize, Error> {
-        Ok(self.set.is_match_candidate(&Candidate::new(path))? as usize)
+        Ok(self.is_match_candidate(&Candidate::new(path))? as usize)
     }
 }
 
@@ -40,33 +40,27 @@ impl Asked for Indexes {
 }
 
 /// `GlobMatcher::is_match_candidate`, of a matcher for each glob.
-#[derive(Drop)]
-pub struct Matchers {
-    pub matchers: Vec<GlobMatcher>,
-}
-
-impl Asked for Matchers {
+impl Asked for Vec<GlobMatcher> {
     fn ask(&mut self, path: &str) -> Result<usize, Error> {
         let path = Candidate::new(path);
         let mut found = 0usize;
-        for matcher in &self.matchers {
+        for matcher in self.as_slice() {
             if matcher.is_match_candidate(&path)? {
                 found = found.wrapping_add(1);
             }
         }
         Ok(found)
     }
+
+    fn calls(&self) -> usize {
+        self.len()
+    }
 }
 
 /// `Searcher::matches`.
-#[derive(Drop)]
-pub struct Searching {
-    pub searcher: Searcher,
-}
-
-impl Asked for Searching {
+impl Asked for Searcher {
     fn ask(&mut self, path: &str) -> Result<usize, Error> {
-        Ok(self.searcher.matches(&Candidate::new(path)).len())
+        Ok(self.matches(&Candidate::new(path)).len())
     }
 }
 
@@ -79,35 +73,32 @@ pub fn ask_all<A: Asked>(asked: &mut A, paths: &[&str]) -> Result<usize> {
     Ok(found)
 }
 
-/// Calls `calls` times for each of these paths, between two readings of the clock.
+/// Asks about each of these paths, between two readings of the clock.
 pub fn add_piece<A: Asked>(
     measured: &mut Measured<'_>,
     asked: &mut A,
     paths: &[&str],
-    calls: usize,
 ) -> Result<()> {
     let start = measured.start()?;
     let found = ask_all(asked, paths)?;
-    measured.stop(start, paths.len().saturating_mul(calls), found)
+    measured.stop(start, paths.len().saturating_mul(asked.calls()), found)
 }
 
-/// Adds rounds over the paths, in pieces of `piece` paths, with `calls` calls for each path.
+/// Adds rounds over the paths, in pieces of `piece` paths.
 pub fn add_rounds<A: Asked>(
     measured: &mut Measured<'_>,
-    limits: Limits,
     asked: &mut A,
     paths: &[&str],
     piece: usize,
-    calls: usize,
 ) -> Result<()>
     requires { 0 < piece }
 {
-    for _ in 0..limits.rounds {
+    for _ in 0..measured.rounds() {
         for some in paths.chunks(piece) {
             if measured.is_enough() {
                 return Ok(());
             }
-            add_piece(measured, asked, some, calls)?;
+            add_piece(measured, asked, some)?;
         }
     }
     Ok(())

@@ -1,13 +1,11 @@
 //! The calls by their names.
 
-use crate::measure::asked::{
-    Any, Asked, Indexes, Matchers, Searching, add_piece, add_rounds, ask_all,
-};
+use crate::measure::asked::{Asked, Indexes, add_piece, add_rounds, ask_all};
 use crate::measure::input::GlobText;
 use crate::measure::made::{AskedSets, Making, Searchers, Sets, add_making, add_reading, read};
 use crate::measure::measured::{Limits, Measured};
 use anyhow::{Result, anyhow};
-use globset::{GlobSet, Searcher};
+use globset::{GlobMatcher, GlobSet, Searcher};
 
 /// The first calls, which are measured by themselves: many sets take more time for these than for later calls.
 const FIRST: usize = 100;
@@ -28,10 +26,10 @@ impl Job<'_> {
     /// Measures the call of this name.
     pub fn run(&self, call: &str) -> Result<()> {
         match call {
-            "is_match" => self.ask(call, Any { set: self.set()? }, 1),
-            "matches" => self.indexes(call),
-            "matcher" => self.matchers(call),
-            "searcher" => self.searching(call),
+            "is_match" => self.ask(call, self.set()?),
+            "matches" => self.ask(call, self.indexes()?),
+            "matcher" => self.ask(call, self.matchers()?),
+            "searcher" => self.ask(call, self.searcher()?),
             "read" => self.reading(call),
             "make" => self.make(call, &Sets),
             "make_searcher" => self.make(call, &Searchers),
@@ -44,25 +42,23 @@ impl Job<'_> {
         Ok(GlobSet::new(self.rt.alloc(), &read(self.rt.alloc(), self.globs)?)?)
     }
 
-    fn indexes(&self, call: &str) -> Result<()> {
-        let asked = Indexes {
+    fn indexes(&self) -> Result<Indexes> {
+        Ok(Indexes {
             set: self.set()?,
             into: Vec::new(self.rt.alloc()),
-        };
-        self.ask(call, asked, 1)
+        })
     }
 
-    fn matchers(&self, call: &str) -> Result<()> {
+    fn matchers(&self) -> Result<Vec<GlobMatcher>> {
         let mut matchers = Vec::new(self.rt.alloc());
         for text in self.globs {
             matchers.push(text.read(self.rt.alloc())?.compile_matcher()?)?;
         }
-        self.ask(call, Matchers { matchers }, self.globs.len())
+        Ok(matchers)
     }
 
-    fn searching(&self, call: &str) -> Result<()> {
-        let searcher = Searcher::new(self.rt.alloc(), &self.set()?)?;
-        self.ask(call, Searching { searcher }, 1)
+    fn searcher(&self) -> Result<Searcher> {
+        Ok(Searcher::new(self.rt.alloc(), &self.set()?)?)
     }
 
     fn asked_sets(&self, call: &str) -> Result<()> {
@@ -70,26 +66,17 @@ impl Job<'_> {
         self.make(call, &AskedSets { path })
     }
 
-    /// Calls `calls` times for each of the paths.
-    fn ask<A: Asked + Drop>(&self, call: &str, mut asked: A, calls: usize) -> Result<()> {
+    /// Asks about each of the paths.
+    fn ask<A: Asked + Drop>(&self, call: &str, mut asked: A) -> Result<()> {
         if self.limits.rounds == 0 {
             return self.count(call, ask_all(&mut asked, self.paths)?);
         }
         let mut measured = Measured::new(self.rt, self.limits);
-        let first = self
-            .paths
-            .get(..FIRST.div_ceil(calls.max(1)))
-            .unwrap_or(self.paths);
-        add_piece(&mut measured, &mut asked, first, calls)?;
-        let piece = PIECE.div_ceil(calls.max(1));
-        add_rounds(
-            &mut measured,
-            self.limits,
-            &mut asked,
-            self.paths,
-            piece,
-            calls,
-        )?;
+        let calls = asked.calls().max(1);
+        let first = self.paths.get(..FIRST.div_ceil(calls));
+        add_piece(&mut measured, &mut asked, first.unwrap_or(self.paths))?;
+        let piece = PIECE.div_ceil(calls);
+        add_rounds(&mut measured, &mut asked, self.paths, piece)?;
         measured.write(call, self.paths.len().div_ceil(piece))
     }
 
@@ -104,7 +91,7 @@ impl Job<'_> {
             return self.count(call, read(self.rt.alloc(), self.globs)?.len());
         }
         let mut measured = Measured::new(self.rt, self.limits);
-        add_reading(&mut measured, self.limits, self.rt.alloc(), self.globs)?;
+        add_reading(&mut measured, self.rt.alloc(), self.globs)?;
         measured.write(call, 1)
     }
 
@@ -115,7 +102,7 @@ impl Job<'_> {
             return self.count(call, globs.len());
         }
         let mut measured = Measured::new(self.rt, self.limits);
-        add_making(&mut measured, self.limits, self.rt.alloc(), making, &globs)?;
+        add_making(&mut measured, self.rt.alloc(), making, &globs)?;
         measured.write(call, 1)
     }
 }

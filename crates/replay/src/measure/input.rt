@@ -5,26 +5,16 @@ use globset::{Error, Glob, GlobBuilder};
 use std::alloc::Global;
 
 /// The options that a glob is read under.
-#[derive(Clone, Copy)]
+#[derive(Clone, Copy, Default)]
 pub struct Options {
     case_insensitive: bool,
     literal_separator: bool,
     empty_alternates: bool,
     allow_unclosed_class: bool,
-    backslash_escape: bool,
+    no_backslash_escape: bool,
 }
 
 impl Options {
-    fn default() -> Options {
-        Options {
-            case_insensitive: false,
-            literal_separator: false,
-            empty_alternates: false,
-            allow_unclosed_class: false,
-            backslash_escape: true,
-        }
-    }
-
     /// Changes the option that a flag names, as `globsift` does.
     fn set(&mut self, flag: &str) -> Result<()> {
         match flag {
@@ -32,7 +22,7 @@ impl Options {
             "-s" => self.literal_separator = true,
             "-e" => self.empty_alternates = true,
             "-u" => self.allow_unclosed_class = true,
-            "-b" => self.backslash_escape = false,
+            "-b" => self.no_backslash_escape = true,
             _ => return Err(anyhow!("an option is unknown")),
         }
         Ok(())
@@ -54,7 +44,7 @@ impl GlobText<'_> {
             .literal_separator(self.options.literal_separator)
             .empty_alternates(self.options.empty_alternates)
             .allow_unclosed_class(self.options.allow_unclosed_class)
-            .backslash_escape(self.options.backslash_escape)
+            .backslash_escape(!self.options.no_backslash_escape)
             .build(alloc)
     }
 }

@@ -1,7 +1,7 @@
 //! Globs that are read, and sets that are made.
 
 use crate::measure::input::GlobText;
-use crate::measure::measured::{Limits, Measured};
+use crate::measure::measured::Measured;
 use anyhow::Result;
 use globset::{Candidate, Glob, GlobSet, Searcher};
 use std::alloc::Global;
@@ -18,22 +18,19 @@ const SMALL: u64 = 6_000;
 /// Returns the globs.
 pub fn read(alloc: Global, texts: &[GlobText<'_>]) -> Result<Vec<Glob>> {
     let mut globs = Vec::with_capacity(alloc, texts.len())?;
-    for text in texts {
-        globs.push(text.read(alloc)?)?;
-    }
+    push_read(alloc, texts, &mut globs)?;
     Ok(globs)
 }
 
 /// Adds rounds that read all globs, several times if they are few. Freeing them is not measured.
 pub fn add_reading(
     measured: &mut Measured<'_>,
-    limits: Limits,
     alloc: Global,
     texts: &[GlobText<'_>],
 ) -> Result<()> {
     let times = GLOBS.div_ceil(texts.len().max(1));
     let mut globs = Vec::with_capacity(alloc, texts.len().saturating_mul(times))?;
-    for _ in 0..limits.rounds {
+    for _ in 0..measured.rounds() {
         if measured.is_enough() {
             return Ok(());
         }
@@ -102,14 +99,13 @@ impl Making for AskedSets<'_> {
 /// Adds rounds that make something, several times if it takes little time. Freeing it is not measured.
 pub fn add_making<M: Making>(
     measured: &mut Measured<'_>,
-    limits: Limits,
     alloc: Global,
     making: &M,
     globs: &[Glob],
 ) -> Result<()> {
     let mut made = Vec::with_capacity(alloc, BATCH)?;
     let mut count = 1;
-    for _ in 0..limits.rounds {
+    for _ in 0..measured.rounds() {
         if measured.is_enough() {
             return Ok(());
         }

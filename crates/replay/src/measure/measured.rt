@@ -25,7 +25,7 @@ impl Limits {
 }
 
 /// Some calls between two readings of the clock: their number, their matches and their time.
-#[derive(Clone, Copy)]
+#[derive(Clone, Copy, Default)]
 struct Piece {
     calls: usize,
     found: usize,
@@ -33,14 +33,6 @@ struct Piece {
 }
 
 impl Piece {
-    fn nothing() -> Piece {
-        Piece {
-            calls: 0,
-            found: 0,
-            nanos: 0,
-        }
-    }
-
     fn add(&mut self, other: Piece) {
         self.calls = self.calls.saturating_add(other.calls);
         self.found = self.found.saturating_add(other.found);
@@ -65,6 +57,11 @@ impl<'a> Measured<'a> {
             pieces: Vec::new(rt.alloc()),
             nanos: 0,
         }
+    }
+
+    /// Returns how many rounds there may be.
+    pub fn rounds(&self) -> usize {
+        self.limits.rounds
     }
 
     /// Returns the processor time so far, to be handed to [`Measured::stop`].
@@ -92,10 +89,7 @@ impl<'a> Measured<'a> {
 
     /// Returns the nanoseconds of the last piece, or 0 if there was none.
     pub fn last_nanos(&self) -> u64 {
-        match self.pieces.last() {
-            Some(piece) => piece.nanos,
-            None => 0,
-        }
+        self.pieces.last().map_or(0, |piece| piece.nanos)
     }
 
     /// Forgets the pieces so far, and not the time that they took.
@@ -107,8 +101,10 @@ impl<'a> Measured<'a> {
     /// after it, or `-` if they are missing. Then come the calls and the nanoseconds of the first piece, of the later half of all
     /// pieces, and of the fastest piece with as many calls as the first.
     pub fn write(&self, call: &str, pieces_of_round: usize) -> Result<()> {
-        let first = self.pieces.first().copied().unwrap_or(Piece::nothing());
-        let (late, least) = (self.late(), self.least(first));
+        let first = self.pieces.first().copied().unwrap_or_default();
+        let half = self.pieces.len() / 2;
+        let late = sum(self.pieces.get(half..).unwrap_or(&[]));
+        let least = self.least(first);
         print!(self.rt; "{call}\t{}\t", first.found)?;
         match self.pieces.get(1..).unwrap_or(&[]).get(..pieces_of_round) {
             Some(pieces) => print!(self.rt; "{}", sum(pieces).found)?,
@@ -119,15 +115,6 @@ impl<'a> Measured<'a> {
             first.calls, first.nanos, late.calls, late.nanos, least.calls, least.nanos
         )?;
         Ok(())
-    }
-
-    /// Returns the later half of the pieces together.
-    fn late(&self) -> Piece {
-        let half = self.pieces.len() / 2;
-        match self.pieces.get(half..) {
-            Some(pieces) => sum(pieces),
-            None => Piece::nothing(),
-        }
     }
 
     /// Returns the fastest of the pieces that have as many calls as the first.
@@ -143,7 +130,7 @@ impl<'a> Measured<'a> {
 }
 
 fn sum(pieces: &[Piece]) -> Piece {
-    let mut sum = Piece::nothing();
+    let mut sum = Piece::default();
     for piece in pieces {
         sum.add(*piece);
     }
