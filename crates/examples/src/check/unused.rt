@@ -113,8 +113,8 @@ fn covers(alloc: Global, rules: &Rules<'_>, rule: usize, by: &[Glob]) -> Result<
     Ok(matches!(coverage(alloc, rules, rule, by)?, Coverage::Covered))
 }
 
-/// Returns whether globs match each path that a rule matches: a path that they miss, if a search found one, and otherwise `Unknown`
-/// if a search reached the limit.
+/// Returns whether globs match each path that a rule matches: a path that they miss if a search found one, and otherwise
+/// `Unknown` if a search reached the limit.
 fn coverage(alloc: Global, rules: &Rules<'_>, rule: usize, by: &[Glob]) -> Result<Coverage, Error> {
     let mut is_known = true;
     for glob in rules.globs_of(rule) {

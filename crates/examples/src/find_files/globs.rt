@@ -26,8 +26,8 @@ impl Wanted {
     }
 }
 
-/// Reads the globs of the arguments, and of the files that they name; without any of them every path matches. Fails with the error
-/// of the first text that is not a glob, or if a file cannot be read.
+/// Reads the globs of the arguments, and of the files that they name; without any of them every path matches. Fails with the
+/// error of the first text that is not a glob, or if a file cannot be read.
 pub fn read_globs(rt: &HostRuntime, arguments: &Arguments<'_>) -> Result<Searcher, Fault> {
     let alloc = rt.alloc();
     let mut globs = GlobSetBuilder::new(alloc);
