@@ -16,8 +16,8 @@
  *    object may be lent to any number of calls at once, in any threads. Each call gets a `globset_lent` of its own (the
  *    struct, not the object). While an object is lent, from before the call until it has returned, nobody passes it to
  *    a call as `globset_owned`: it is not freed, for instance.
- *  - A work is the memory that one thread matches with. It serves any number of sets and matchers, and grows with them.
- *    It belongs to one thread at a time. A *plain* call, whose name ends in `_plain`, is passed no work: it takes what
+ *  - A work is the memory that one thread asks matchers with. It serves any number of them, and grows with them. It
+ *    belongs to one thread at a time. A *plain* call, whose name ends in `_plain`, is passed no work: it takes what
  *    memory it needs, and gives it back.
  *  - A set and a matcher keep caches of rows between calls, until they are freed: at most four for each automaton.
  *    Plain calls make them, except the first two that would use one. A call that grows a work makes one for each
@@ -99,8 +99,8 @@ typedef struct globset_bytes {
     size_t count;
 } globset_bytes;
 
-/* Indexes that a work, a searcher or answers lend, and numbers of lines that answers or a walk lend. Before a call that
- * writes them they have to be valid: with the count 0 `at` is any address of a size_t. */
+/* Indexes that a searcher or answers lend, and numbers of lines that answers or a walk lend. Before a call that writes
+ * them they have to be valid: with the count 0 `at` is any address of a size_t. */
 typedef struct globset_indexes {
     const size_t *at;
     size_t count;
@@ -185,47 +185,14 @@ globset_status globset_raw_set_matches_all_plain(globset_lent *set, const uint8_
 globset_status globset_raw_set_matches_plain(globset_lent *set, const uint8_t *path, size_t path_len, size_t *room,
                                              size_t room_len, size_t *needed);
 
-/* Whether some glob of the set matches some path below the directory, as globset_raw_searcher_can_match_below. It ends
- * in the statuses of globset_raw_set_is_match_plain. */
-globset_status globset_raw_set_can_match_below_plain(globset_lent *set, const uint8_t *folder, size_t folder_len);
-
 /* Makes a work. It fits a set without globs, and is grown as it is used. GLOBSET_DONE, GLOBSET_OUT_OF_MEMORY. */
 globset_status globset_raw_work_new(globset_owned *out);
 
 /* Grows a work, if need be, so that it fits this set or matcher, and all that it fitted before. GLOBSET_DONE;
  * GLOBSET_WRONG_KIND and GLOBSET_OUT_OF_MEMORY, and then the work fits what it fitted before. If it is grown, the set
- * or the matcher keeps caches, as said above; one for which there is no memory is left out. With a work that fits, no
- * question about one path takes memory or can end in GLOBSET_OUT_OF_MEMORY. */
+ * or the matcher keeps caches, as said above; one for which there is no memory is left out. With a work that fits the
+ * matcher, no question about one path takes memory or can end in GLOBSET_OUT_OF_MEMORY. */
 globset_status globset_raw_work_fit(globset_owned *work, globset_lent *set_or_matcher);
-
-/* Whether some glob of the set matches the path: GLOBSET_YES or GLOBSET_NO. A glob that is read as `**` followed by
- * `/..` matches no path in a set. If the work does not fit the set, it is grown first, and only that can end in
- * GLOBSET_OUT_OF_MEMORY. GLOBSET_WRONG_KIND. */
-globset_status globset_raw_set_is_match(globset_lent *set, globset_owned *work, const uint8_t *path, size_t path_len);
-
-/* Whether all globs of the set match the path: GLOBSET_YES or GLOBSET_NO. Otherwise as globset_raw_set_is_match. */
-globset_status globset_raw_set_matches_all(globset_lent *set, globset_owned *work, const uint8_t *path,
-                                           size_t path_len);
-
-/* Finds the indexes of the globs of the set that match the path, ascending. GLOBSET_DONE: the work has them in place of
- * those that it found before, and `count` tells how many they are. If the work does not fit the set, or has no room for
- * as many indexes as the set has globs, it is grown first, and only that can end in GLOBSET_OUT_OF_MEMORY.
- * GLOBSET_WRONG_KIND. After these two the work has the indexes that it found before. */
-globset_status globset_raw_set_find(globset_lent *set, globset_owned *work, const uint8_t *path, size_t path_len,
-                                    size_t *count);
-
-/* Lends the indexes that the last globset_raw_set_find with this work found, or none if there was no such call. It
- * takes no memory. GLOBSET_DONE: they may be read until the next call that the work is passed to, globset_raw_free too.
- * The caller writes nothing there. GLOBSET_WRONG_KIND: the object is no work, and `indexes` has the count 0. */
-globset_status globset_raw_work_found(globset_owned *work, globset_indexes *indexes);
-
-/* Asks globset_raw_set_is_match of many paths. Path number i is the bytes from ends[i - 1] (from 0 for the first) up to
- * ends[i], without that one. GLOBSET_DONE: answers[i] is 1 if some glob matches path number i, and else 0. Otherwise no
- * answer was written: GLOBSET_BAD_ENDS, GLOBSET_WRONG_KIND, GLOBSET_OUT_OF_MEMORY: the call takes a byte for each path,
- * and gives it back. Bytes after the last end belong to no path. */
-globset_status globset_raw_set_is_match_many(globset_lent *set, globset_owned *work, const uint8_t *paths,
-                                             size_t paths_len, const size_t *ends, size_t ends_len, uint8_t *answers,
-                                             size_t answers_len);
 
 /* Makes a searcher of a set. It shares what the set matches with, so the set may be freed. It takes the memory that
  * questions about one path need: eight bytes for each glob, as much as a work that fits the set, and for rows of
@@ -235,7 +202,7 @@ globset_status globset_raw_set_is_match_many(globset_lent *set, globset_owned *w
 globset_status globset_raw_searcher_new(globset_lent *set, globset_owned *out);
 
 /* Whether some glob of the searcher's set matches the path: GLOBSET_YES or GLOBSET_NO, the same as of
- * globset_raw_set_is_match. It takes no memory. GLOBSET_WRONG_KIND: the object is no searcher, and is as it was. */
+ * globset_raw_set_is_match_plain. It takes no memory. GLOBSET_WRONG_KIND: the object is no searcher, and is as it was. */
 globset_status globset_raw_searcher_is_match(globset_owned *searcher, const uint8_t *path, size_t path_len);
 
 /* Whether all globs of the searcher's set match the path: GLOBSET_YES or GLOBSET_NO. Otherwise as
@@ -252,14 +219,16 @@ globset_status globset_raw_searcher_find(globset_owned *searcher, const uint8_t 
  * caller writes nothing there. GLOBSET_WRONG_KIND: the object is no searcher, and `indexes` has the count 0. */
 globset_status globset_raw_searcher_found(globset_owned *searcher, globset_indexes *indexes);
 
-/* Asks globset_raw_searcher_is_match of many paths, as globset_raw_set_is_match_many asks of a set: with the same ends,
- * answers and statuses. */
+/* Asks globset_raw_searcher_is_match of many paths. Path number i is the bytes from ends[i - 1] (from 0 for the first) up
+ * to ends[i], without that one. GLOBSET_DONE: answers[i] is 1 if some glob matches path number i, and else 0. Otherwise
+ * no answer was written: GLOBSET_BAD_ENDS, GLOBSET_WRONG_KIND, GLOBSET_OUT_OF_MEMORY: the call takes a byte for each
+ * path, and gives it back. Bytes after the last end belong to no path. */
 globset_status globset_raw_searcher_is_match_many(globset_owned *searcher, const uint8_t *paths, size_t paths_len,
                                                   const size_t *ends, size_t ends_len, uint8_t *answers,
                                                   size_t answers_len);
 
 /* Finds the indexes of each of many paths, as globset_raw_searcher_find finds those of one, with ends as at
- * globset_raw_set_is_match_many. GLOBSET_DONE: the first `*needed` numbers of `room` are the indexes, those of the
+ * globset_raw_searcher_is_match_many. GLOBSET_DONE: the first `*needed` numbers of `room` are the indexes, those of the
  * first path first, and the others are as they were; the indexes of path number i are those from index_ends[i - 1]
  * (from 0 for the first) up to index_ends[i], without that one. GLOBSET_TOO_SMALL: `*needed` is how many indexes there
  * are, and `room` and `index_ends` are as they were. GLOBSET_BAD_ENDS, also if `index_ends` has not one number for each
@@ -340,8 +309,8 @@ globset_status globset_raw_ignore_leave(globset_owned *ignore);
 globset_status globset_raw_ignore_decide(globset_owned *ignore, const uint8_t *path, size_t path_len,
                                          uint32_t is_directory, uint32_t by, size_t *file, size_t *line);
 
-/* Decides about many paths, as globset_raw_ignore_decide about one, with ends as at globset_raw_set_is_match_many. A path
- * that ends with `/` is of a directory, and is decided about without that `/`. GLOBSET_DONE: answers[i] is 0 if no rule
+/* Decides about many paths, as globset_raw_ignore_decide about one, with ends as at globset_raw_searcher_is_match_many. A
+ * path that ends with `/` is of a directory, and is decided about without that `/`. GLOBSET_DONE: answers[i] is 0 if no rule
  * decides about path number i, 1 if a rule ignores it, and 2 if a rule keeps it. Otherwise no answer was written:
  * GLOBSET_UNKNOWN_OPTION, which is looked at first, GLOBSET_BAD_ENDS, GLOBSET_WRONG_KIND, GLOBSET_OUT_OF_MEMORY: the call
  * takes a byte for each path, and gives it back. */

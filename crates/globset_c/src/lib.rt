@@ -3,7 +3,6 @@
 //! Each function that C calls is safe code. The memory behind what C owns and lends is reached by [`owned`] and [`lent`] alone.
 #![tactic(auto)]
 
-mod all;
 mod answers;
 mod builders;
 mod error;
@@ -19,7 +18,6 @@ mod ignoring;
 mod indexes;
 mod lent;
 mod making;
-mod many;
 mod matchers;
 mod object;
 mod options;

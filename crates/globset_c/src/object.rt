@@ -5,7 +5,8 @@ use crate::read_glob::ReadGlob;
 use git_ignore::IgnoreStack;
 use globset::{GlobMatcher, GlobSet, GlobSetBuilder, Scratch, Searcher};
 
-/// The memory that a thread keeps between calls, and the indexes of the last call.
+/// The memory that a thread keeps between calls on matchers. `found` is empty, with room for the indexes of each set that the work
+/// fits.
 #[derive(Drop)]
 pub struct Work {
     pub scratch: Scratch,

@@ -3,7 +3,6 @@
 ghost use Rattle.std.specs.Prelude.{◌≡◌, ◌≢◌, Some, None, Err, [], ◌∷◌, IfOk, IfErr, true, false};
 ghost use Rattle.glob_text.specs.GlobMatches.{glob_matches};
 ghost use Rattle.globset.specs.Answer.{matching_indexes};
-ghost use Rattle.globset.specs.Below.{MatchesBelow};
 ghost use Rattle.globset.specs.SetValue.{set_globs};
 ghost use Rattle.globset_c.specs.Answers.{IsAll};
 ghost use Rattle.globset_c.specs.Capacity.{IsWritten, IsTooLong};
@@ -190,47 +189,4 @@ fn matches_of(alloc: Global, object: &Object, path: &[u8]) -> Result<Vec<usize>,
         Ok(indexes) => Ok(indexes),
         Err(_) => Err(Failure::OutOfMemory),
     }
-}
-
-/// Returns whether some glob of a set matches some path below a directory.
-#[unsafe(no_mangle)]
-pub extern "C" fn globset_raw_set_can_match_below_plain(set: &mut Lent, folder: &[u8]) -> Status
-    ensures same_set { set.new ≡ set.old }
-    ensures yes { result ≡ YES
-        → IfSet (Some set.old.object) (λ s. MatchesBelow (set_globs s) folder.now) }
-    ensures no { result ≡ NO
-        → IfSet (Some set.old.object) (λ s. ¬ (MatchesBelow (set_globs s) folder.now)) }
-    ensures right_kind { IsSet (Some set.old.object) → result ≢ WRONG_KIND }
-    ensures other_kind { ¬ (IsSet (Some set.old.object)) → result ≡ WRONG_KIND }
-    ensures statuses { IsOneOf (NO ∷ YES ∷ OUT_OF_MEMORY ∷ WRONG_KIND ∷ []) result }
-{
-    // The borrow checker has to be told the type that is lent.
-    let _object: Option<Object> = None;
-    set.read(folder, |object, folder| can_match_below_of(object, folder))
-}
-
-fn can_match_below_of(object: &Object, folder: &[u8]) -> Status
-    ensures yes { result ≡ YES
-        → IfSet (Some object.now) (λ s. MatchesBelow (set_globs s) folder.now) }
-    ensures no { result ≡ NO
-        → IfSet (Some object.now) (λ s. ¬ (MatchesBelow (set_globs s) folder.now)) }
-    ensures right_kind { IsSet (Some object.now) → result ≢ WRONG_KIND }
-    ensures other_kind { ¬ (IsSet (Some object.now)) → result ≡ WRONG_KIND }
-    ensures statuses { IsOneOf (NO ∷ YES ∷ OUT_OF_MEMORY ∷ WRONG_KIND ∷ []) result }
-{
-    match object {
-        Object::Set(set) => can_match_below_in(set, folder),
-        _ => WRONG_KIND,
-    }
-}
-
-fn can_match_below_in(set: &GlobSet, folder: &[u8]) -> Status
-    ensures yes { result ≡ YES → MatchesBelow (set_globs set.now) folder.now }
-    ensures no { result ≡ NO → ¬ (MatchesBelow (set_globs set.now) folder.now) }
-    ensures statuses { IsOneOf (NO ∷ YES ∷ OUT_OF_MEMORY ∷ []) result }
-{
-    let Ok(can_match) = set.can_match_below_candidate(&Candidate::from_bytes(folder)) else {
-        return OUT_OF_MEMORY;
-    };
-    if can_match { YES } else { NO }
 }

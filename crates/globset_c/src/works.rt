@@ -1,7 +1,7 @@
-//! Works: the memory that a thread matches with.
+//! Works: the memory that a thread asks matchers with.
 
 ghost use Rattle.std.specs.Prelude.{◌≡◌, ◌≢◌, ◌⊎◌, ◌≤◌, Some, [], ◌∷◌, IsSome, IsOk, OnOk, OnErr, length, vec_capacity};
-ghost use Rattle.globset.specs.SetValue.{Fits, FitsAsBefore, FitsMatcher, set_globs};
+ghost use Rattle.globset.specs.SetValue.{FitsAsBefore, FitsMatcher};
 ghost use Rattle.globset_c.specs.Allocation.{as_object, HasGrown, IsFitFor, IsGrown, HoldsIndexesOf};
 ghost use Rattle.globset_c.specs.Kinds.{IfWork, IsMatcher, IsSet, IsWork};
 ghost use Rattle.globset_c.specs.Statuses.{IsOneOf};
@@ -90,7 +90,7 @@ fn fit_object(object: &Object, work: &mut Work) -> Status
     ensures statuses { IsOneOf (DONE ∷ OUT_OF_MEMORY ∷ WRONG_KIND ∷ []) result }
 {
     let fitted = match object {
-        Object::Set(set) => fit_indexes(work, set),
+        Object::Set(set) => fit_set(work, set),
         Object::Matcher(matcher) => fit_matcher(work, matcher),
         _ => return WRONG_KIND,
     };
@@ -100,27 +100,16 @@ fn fit_object(object: &Object, work: &mut Work) -> Status
     }
 }
 
-/// Makes a work fit another set. It allocates nothing if the work fits the set already.
-pub fn fit(work: &mut Work, set: &GlobSet) -> Result<(), AllocError>
-    ensures fits { OnOk result (Fits work.new.scratch set.now) }
-    ensures others { FitsAsBefore work.old.scratch work.new.scratch }
-    ensures succeeds_if_fits { Fits work.old.scratch set.now → IsOk result }
-    ensures same_found { work.new.found ≡ work.old.found }
-{
-    match work.scratch.fit(set) {
-        Ok(()) => Ok(()),
-        Err(_) => Err(AllocError),
-    }
-}
-
 /// Makes a work fit another set, with room for all of its indexes. It allocates nothing if the work has them already.
-pub fn fit_indexes(work: &mut Work, set: &GlobSet) -> Result<(), AllocError>
+fn fit_set(work: &mut Work, set: &GlobSet) -> Result<(), AllocError>
     ensures fits { OnOk result (HoldsIndexesOf work.new set.now) }
     ensures others { HasGrown work.old work.new }
     ensures same_found { work.new.found.items ≡ work.old.found.items }
     ensures succeeds_if_fits { HoldsIndexesOf work.old set.now → IsOk result }
 {
-    fit(work, set)?;
+    if work.scratch.fit(set).is_err() {
+        return Err(AllocError);
+    }
     let len = set.len();
     if work.found.capacity() >= len {
         return Ok(());

@@ -186,80 +186,41 @@ static void parts(void) {
     raw_glob_free(empty);
 }
 
+/* How many globs there are in a set. A work fits one set after the other. */
 static void sets(void) {
     static const char *const globs[] = {"*.c", "src/*", "**/..", "*a*b*"};
-    raw_set set = set_of(globs, 4), empty = set_of(globs, 0), some = set_of(globs, 2);
+    raw_set set = set_of(globs, 4), empty = set_of(globs, 0);
     raw_work work;
-    globset_indexes found;
-    CHECK(raw_work_new(&work) == GLOBSET_DONE);
     CHECK(raw_set_len(set) == 4 && raw_set_len(empty) == 0);
-    CHECK(raw_set_is_match(empty, &work, TEXT("a.c")) == GLOBSET_NO);
-    CHECK(raw_set_matches_all(empty, &work, TEXT("a.c")) == GLOBSET_YES);
-    CHECK(raw_set_is_match(set, &work, TEXT("a.c")) == GLOBSET_YES);
-    CHECK(raw_set_is_match(set, &work, TEXT("x/..")) == GLOBSET_NO);
-    CHECK(raw_set_matches_all(set, &work, TEXT("src/ab.c")) == GLOBSET_NO);
-    CHECK(raw_set_matches_all(some, &work, TEXT("src/x.c")) == GLOBSET_YES);
-    CHECK(raw_set_matches_all(some, &work, TEXT("x.c")) == GLOBSET_NO);
-    CHECK(raw_set_matches(set, &work, TEXT("src/ab.c"), &found) == GLOBSET_DONE);
-    CHECK(found.count == 3 && found.at[0] == 0 && found.at[1] == 1 && found.at[2] == 3);
-    CHECK(raw_set_matches(set, &work, TEXT("x"), &found) == GLOBSET_DONE && found.count == 0);
-    CHECK(raw_set_matches(some, &work, TEXT("src/ab"), &found) == GLOBSET_DONE && found.count == 1 && found.at[0] == 1);
-    CHECK(raw_set_matches(empty, &work, TEXT("x"), &found) == GLOBSET_DONE && found.count == 0);
-    CHECK(raw_work_fit_set(&work, set) == GLOBSET_DONE);
+    CHECK(raw_work_new(&work) == GLOBSET_DONE);
+    CHECK(raw_work_fit_set(&work, set) == GLOBSET_DONE && raw_work_fit_set(&work, empty) == GLOBSET_DONE);
     raw_work_free(work);
     raw_set_free(set);
     raw_set_free(empty);
-    raw_set_free(some);
-}
-
-/* What a work has found stays until the next raw_set_find, whatever it is passed to. */
-static void found_by_works(void) {
-    static const char *const globs[] = {"*.c", "src/*", "*a*b*"};
-    raw_set set = set_of(globs, 3), other = set_of(globs, 1);
-    raw_work work;
-    globset_indexes found;
-    uint8_t answer;
-    const size_t end = 1;
-    size_t count = 9;
-    CHECK(raw_work_new(&work) == GLOBSET_DONE);
-    CHECK(raw_work_found(&work, &found) == GLOBSET_DONE && found.count == 0);
-    for (int again = 0; again < 2; again++) {
-        CHECK(raw_set_find(set, &work, TEXT("src/x.c"), &count) == GLOBSET_DONE && count == 2);
-        CHECK(raw_set_is_match(other, &work, TEXT("x")) == GLOBSET_NO);
-        CHECK(raw_set_matches_all(other, &work, TEXT("x")) == GLOBSET_NO);
-        CHECK(raw_set_is_match_many(other, &work, "x", 1, &end, &answer, 1) == GLOBSET_DONE && answer == 0);
-        CHECK(raw_work_fit_set(&work, other) == GLOBSET_DONE && raw_work_fit_set(&work, set) == GLOBSET_DONE);
-        for (int twice = 0; twice < 2; twice++) {
-            CHECK(raw_work_found(&work, &found) == GLOBSET_DONE);
-            CHECK(found.count == 2 && found.at[0] == 0 && found.at[1] == 1);
-        }
-        CHECK(raw_set_find(other, &work, TEXT("x"), &count) == GLOBSET_DONE && count == 0);
-        CHECK(raw_work_found(&work, &found) == GLOBSET_DONE && found.count == 0);
-    }
-    raw_work_free(work);
-    raw_set_free(set);
-    raw_set_free(other);
 }
 
 /* Sets of arrays of globs, one of which is there twice. The globs are freed before the set is asked. */
 static void sets_of_globs(void) {
     raw_glob globs[4] = {glob_of("*.c", 0), glob_of("SRC/*", GLOBSET_CASE_INSENSITIVE), glob_of("**/..", 0), {{NULL}}};
     raw_set set, empty, one;
-    raw_work work;
+    raw_searcher searcher, of_empty, of_one;
     globset_indexes found;
     globs[3] = globs[0];
-    CHECK(raw_work_new(&work) == GLOBSET_DONE);
     CHECK(raw_set_of_globs(globs, 4, &set) == GLOBSET_DONE && raw_set_len(set) == 4);
     CHECK(raw_set_of_globs(globs, 0, &empty) == GLOBSET_DONE && raw_set_len(empty) == 0);
     CHECK(raw_set_of_globs(&globs[1], 1, &one) == GLOBSET_DONE && raw_set_len(one) == 1);
     CHECK(raw_glob_options(globs[1]) == GLOBSET_CASE_INSENSITIVE);
     for (int i = 0; i < 3; i++) raw_glob_free(globs[i]);
-    CHECK(raw_set_matches(set, &work, TEXT("src/x.c"), &found) == GLOBSET_DONE);
+    CHECK(raw_searcher_new(set, &searcher) == GLOBSET_DONE && raw_searcher_new(empty, &of_empty) == GLOBSET_DONE);
+    CHECK(raw_searcher_new(one, &of_one) == GLOBSET_DONE);
+    CHECK(raw_searcher_matches(&searcher, TEXT("src/x.c"), &found) == GLOBSET_DONE);
     CHECK(found.count == 3 && found.at[0] == 0 && found.at[1] == 1 && found.at[2] == 3);
-    CHECK(raw_set_is_match(set, &work, TEXT("x/..")) == GLOBSET_NO);
-    CHECK(raw_set_is_match(empty, &work, TEXT("x.c")) == GLOBSET_NO);
-    CHECK(raw_set_is_match(one, &work, TEXT("Src/x")) == GLOBSET_YES);
-    raw_work_free(work);
+    CHECK(raw_searcher_is_match(&searcher, TEXT("x/..")) == GLOBSET_NO);
+    CHECK(raw_searcher_is_match(&of_empty, TEXT("x.c")) == GLOBSET_NO);
+    CHECK(raw_searcher_is_match(&of_one, TEXT("Src/x")) == GLOBSET_YES);
+    raw_searcher_free(searcher);
+    raw_searcher_free(of_empty);
+    raw_searcher_free(of_one);
     raw_set_free(set);
     raw_set_free(empty);
     raw_set_free(one);
@@ -340,24 +301,13 @@ static void addresses(void) {
 static void many(void) {
     static const char *const globs[] = {"*.c", "*a*b*"};
     raw_set set = set_of(globs, 2);
-    raw_work work;
+    raw_searcher searcher;
     uint8_t answers[5];
     static const char paths[] = "x.cx.hab\xff.c#";
     static const size_t ends[] = {3, 6, 6, 8, 11};
     static const uint8_t wanted[] = {1, 0, 0, 1, 1};
-    CHECK(raw_work_new(&work) == GLOBSET_DONE);
-    CHECK(raw_set_is_match_many(set, &work, paths, 11, ends, answers, 5) == GLOBSET_DONE);
-    CHECK(memcmp(answers, wanted, 5) == 0);
-    CHECK(raw_set_is_match_many(set, &work, NULL, 0, NULL, NULL, 0) == GLOBSET_DONE);
-    memset(answers, 7, 5);
-    CHECK(raw_set_is_match_many(set, &work, paths, 10, ends, answers, 5) == GLOBSET_BAD_ENDS);
     static const size_t descending[] = {3, 2};
-    CHECK(raw_set_is_match_many(set, &work, paths, 11, descending, answers, 2) == GLOBSET_BAD_ENDS);
-    globset_lent lent = raw_lend(set.object);
-    CHECK(globset_raw_set_is_match_many(&lent, &work.object, (const uint8_t *)paths, 11, ends, 5, answers, 4) ==
-          GLOBSET_BAD_ENDS);
-    CHECK(answers[0] == 7 && answers[1] == 7 && answers[4] == 7);
-    raw_searcher searcher;
+    memset(answers, 7, 5);
     CHECK(raw_searcher_new(set, &searcher) == GLOBSET_DONE);
     CHECK(raw_searcher_is_match_many(&searcher, paths, 10, ends, answers, 5) == GLOBSET_BAD_ENDS);
     CHECK(raw_searcher_is_match_many(&searcher, paths, 11, descending, answers, 2) == GLOBSET_BAD_ENDS);
@@ -368,7 +318,6 @@ static void many(void) {
     CHECK(memcmp(answers, wanted, 5) == 0);
     CHECK(raw_searcher_is_match_many(&searcher, NULL, 0, NULL, NULL, 0) == GLOBSET_DONE);
     raw_searcher_free(searcher);
-    raw_work_free(work);
     raw_set_free(set);
 }
 
@@ -476,26 +425,24 @@ static void many_globs(void) {
         globs[i] = texts[i];
     }
     raw_set set = set_of(globs, GLOBS);
-    raw_work work;
     raw_searcher searcher;
-    globset_indexes by_set, by_searcher;
+    globset_lent lent = raw_lend(set.object);
+    globset_indexes found;
     uint32_t seed = 1;
-    size_t all = 0;
-    CHECK(raw_work_new(&work) == GLOBSET_DONE && raw_searcher_new(set, &searcher) == GLOBSET_DONE);
+    size_t by_set[GLOBS], count = 0, all = 0;
+    CHECK(raw_searcher_new(set, &searcher) == GLOBSET_DONE);
     for (int i = 0; i < PATHS; i++) {
         char path[40];
         size_t len = (size_t)i % sizeof path;
         for (size_t k = 0; k < len; k++) path[k] = (char)('a' + (seed = seed * 1664525 + 1013904223) / 65536 % 26);
-        CHECK(raw_set_matches(set, &work, path, len, &by_set) == GLOBSET_DONE);
-        CHECK(raw_searcher_matches(&searcher, path, len, &by_searcher) == GLOBSET_DONE);
-        CHECK(by_set.count == by_searcher.count);
-        CHECK(memcmp(by_set.at, by_searcher.at, by_set.count * sizeof *by_set.at) == 0);
-        CHECK(raw_searcher_is_match(&searcher, path, len) == (by_set.count > 0 ? GLOBSET_YES : GLOBSET_NO));
-        all += by_set.count;
+        CHECK(globset_raw_set_matches_plain(&lent, raw_bytes(path), len, by_set, GLOBS, &count) == GLOBSET_DONE);
+        CHECK(raw_searcher_matches(&searcher, path, len, &found) == GLOBSET_DONE && found.count == count);
+        CHECK(memcmp(by_set, found.at, count * sizeof *by_set) == 0);
+        CHECK(raw_searcher_is_match(&searcher, path, len) == (count > 0 ? GLOBSET_YES : GLOBSET_NO));
+        all += count;
     }
     CHECK(all > PATHS);
     raw_searcher_free(searcher);
-    raw_work_free(work);
     raw_set_free(set);
 }
 
@@ -538,8 +485,6 @@ static void wrong_kinds(void) {
         globset_owned out = {&lent};
         uint8_t byte = 9;
         size_t size = 9;
-        const size_t end = 3;
-        globset_indexes found = {raw_no_indexes, 1};
         uint32_t options = 9;
         CHECK(i == 0 || globset_raw_glob_regex(&lent, &byte, 1, &size) == GLOBSET_WRONG_KIND);
         CHECK(i == 0 || globset_raw_glob_text(&lent, &byte, 1, &size) == GLOBSET_WRONG_KIND);
@@ -549,24 +494,11 @@ static void wrong_kinds(void) {
         CHECK(i == 1 || i == 4 || globset_raw_matcher_is_match(&lent, &work.object, path, 3) == GLOBSET_WRONG_KIND);
         CHECK(i == 3 || globset_raw_set_len(&lent, &size) == GLOBSET_WRONG_KIND);
         CHECK(i == 3 || globset_raw_searcher_new(&lent, &out) == GLOBSET_WRONG_KIND);
-        if (i < 3 || i == 5) {
-            CHECK(globset_raw_set_is_match(&lent, &work.object, path, 3) == GLOBSET_WRONG_KIND);
-            CHECK(globset_raw_set_matches_all(&lent, &work.object, path, 3) == GLOBSET_WRONG_KIND);
-            CHECK(globset_raw_set_find(&lent, &work.object, path, 3, &size) == GLOBSET_WRONG_KIND);
-            CHECK(globset_raw_set_is_match_many(&lent, &work.object, path, 3, &end, 1, &byte, 1) == GLOBSET_WRONG_KIND);
-        }
         CHECK(i == 1 || i == 3 || i == 4 || globset_raw_work_fit(&work.object, &lent) == GLOBSET_WRONG_KIND);
-        CHECK(byte == 9 && size == 9 && out.at == &lent);
         globset_lent lent_set = raw_lend(set.object);
-        CHECK(i == 3 || i == 4 || globset_raw_set_is_match(&lent_set, objects[i], path, 3) == GLOBSET_WRONG_KIND);
-        CHECK(i == 3 || i == 4 || globset_raw_set_matches_all(&lent_set, objects[i], path, 3) == GLOBSET_WRONG_KIND);
-        CHECK(i == 3 || i == 4 || globset_raw_set_find(&lent_set, objects[i], path, 3, &size) == GLOBSET_WRONG_KIND);
-        CHECK(i == 4 || (globset_raw_work_found(objects[i], &found) == GLOBSET_WRONG_KIND && found.count == 0));
         globset_lent globs_and_other[2] = {raw_lend(glob.object), lent};
         CHECK(i == 0 || globset_raw_set_of_globs(globs_and_other, 2, &out) == GLOBSET_WRONG_KIND);
-        CHECK(size == 9 && out.at == &lent);
-        CHECK(i == 3 || i == 4 ||
-              globset_raw_set_is_match_many(&lent_set, objects[i], path, 3, &end, 1, &byte, 1) == GLOBSET_WRONG_KIND);
+        CHECK(byte == 9 && size == 9 && out.at == &lent);
         CHECK(i == 3 || i == 4 || globset_raw_work_fit(objects[i], &lent_set) == GLOBSET_WRONG_KIND);
         CHECK(i == 2 || globset_raw_builder_build(objects[i], &out) == GLOBSET_WRONG_KIND);
         CHECK(globset_raw_builder_set_dfa_size_limit(objects[i], 0) == (i == 2 ? GLOBSET_DONE : GLOBSET_WRONG_KIND));
@@ -576,7 +508,7 @@ static void wrong_kinds(void) {
     globset_owned out = {&lent_glob};
     CHECK(globset_raw_builder_add(&set.object, &lent_glob) == GLOBSET_WRONG_KIND);
     CHECK(globset_raw_builder_build(&set.object, &out) == GLOBSET_WRONG_KIND && out.at == &lent_glob);
-    CHECK(raw_set_is_match(set, &work, "a.c", 3) == GLOBSET_YES);
+    CHECK(raw_set_len(set) == 1);
     CHECK(raw_matcher_is_match(matcher, &work, "a.c", 3) == GLOBSET_YES);
     CHECK(raw_searcher_is_match(&searcher, "a.c", 3) == GLOBSET_YES);
     raw_glob_free(glob);
@@ -597,7 +529,6 @@ int main(void) {
     texts();
     parts();
     sets();
-    found_by_works();
     sets_of_globs();
     builders();
     limits();

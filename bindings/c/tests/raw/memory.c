@@ -53,41 +53,20 @@ static void try_set_of_globs(void) {
     raw_set_free(set);
 }
 
-/* Each question first with a new work. Once the work fits, no question takes memory. */
-static void try_questions(raw_set set, raw_matcher matcher) {
-    const char *path = "src/a/b.c";
-    const size_t ends[] = {3, 9};
-    uint8_t answers[2];
-    globset_indexes found;
-    size_t count;
-    for (int question = 0; question < 6; question++) {
+/* A new work is grown by a question or by raw_work_fit. Once it fits, neither takes memory. */
+static void try_works(raw_set set, raw_matcher matcher) {
+    for (int by_question = 0; by_question < 2; by_question++) {
         raw_work work;
         TRY(raw_work_new(&work), GLOBSET_DONE, CHECK(blocks == before));
         for (int again = 0; again < 2; again++) {
             long before_all = failures;
-            switch (question) {
-            case 0: TRY(raw_set_is_match(set, &work, TEXT(path)), GLOBSET_YES, ); break;
-            case 1: TRY(raw_set_matches_all(set, &work, TEXT(path)), GLOBSET_NO, ); break;
-            case 2:
-                count = 7;
-                TRY(raw_set_find(set, &work, TEXT(path), &count), GLOBSET_DONE,
-                    CHECK(count == 7 && raw_work_found(&work, &found) == GLOBSET_DONE && found.count == 0));
-                CHECK(count == 2 && raw_work_found(&work, &found) == GLOBSET_DONE);
-                CHECK(found.count == 2 && found.at[0] == 2 && found.at[1] == 3);
-                break;
-            case 3: TRY(raw_matcher_is_match(matcher, &work, TEXT("abc")), GLOBSET_YES, ); break;
-            case 4:
-                answers[0] = answers[1] = 7;
-                TRY(raw_set_is_match_many(set, &work, TEXT(path), ends, answers, 2), GLOBSET_DONE,
-                    CHECK(answers[0] == 7 && answers[1] == 7));
-                CHECK(answers[0] == 0 && answers[1] == 1);
-                break;
-            case 5:
+            if (by_question) {
+                TRY(raw_matcher_is_match(matcher, &work, TEXT("abc")), GLOBSET_YES, );
+            } else {
                 TRY(raw_work_fit_set(&work, set), GLOBSET_DONE, );
                 TRY(raw_work_fit_matcher(&work, matcher), GLOBSET_DONE, );
-                break;
             }
-            CHECK(again == 0 || question == 4 || failures == before_all);
+            CHECK(again == 0 || failures == before_all);
         }
         raw_work_free(work);
     }
@@ -101,7 +80,6 @@ static void try_plain(raw_set set, raw_matcher matcher) {
     size_t room[2] = {7, 7}, needed = 7;
     TRY(globset_raw_set_is_match_plain(&lent_set, path, 9), GLOBSET_YES, CHECK(blocks == before));
     TRY(globset_raw_set_matches_all_plain(&lent_set, path, 9), GLOBSET_NO, CHECK(blocks == before));
-    TRY(globset_raw_set_can_match_below_plain(&lent_set, path, 3), GLOBSET_YES, CHECK(blocks == before));
     TRY(globset_raw_set_matches_plain(&lent_set, path, 9, room, 2, &needed), GLOBSET_DONE,
         CHECK(blocks == before && room[0] == 7 && needed == 7));
     CHECK(needed == 2 && room[0] == 2 && room[1] == 3);
@@ -228,7 +206,7 @@ int main(void) {
     raw_matcher matcher;
     raw_set set = try_making(&matcher);
     try_set_of_globs();
-    try_questions(set, matcher);
+    try_works(set, matcher);
     try_plain(set, matcher);
     try_searcher(set);
     try_relations();

@@ -19,11 +19,6 @@ static globset_status matches_all(raw_set asked, const char *path) {
     return globset_raw_set_matches_all_plain(&lent, raw_bytes(path), strlen(path));
 }
 
-static globset_status can_match_below(raw_set asked, const char *folder) {
-    globset_lent lent = raw_lend(asked.object);
-    return globset_raw_set_can_match_below_plain(&lent, raw_bytes(folder), strlen(folder));
-}
-
 static globset_status matches(raw_set asked, const char *path, size_t *room, size_t size, size_t *needed) {
     globset_lent lent = raw_lend(asked.object);
     return globset_raw_set_matches_plain(&lent, raw_bytes(path), strlen(path), room, size, needed);
@@ -36,7 +31,6 @@ static void answers(void) {
     CHECK(is_match(four, "a.c") == GLOBSET_YES && is_match(four, "x/..") == GLOBSET_NO);
     CHECK(is_match(none, "a.c") == GLOBSET_NO && matches_all(none, "a.c") == GLOBSET_YES);
     CHECK(matches_all(two, "src/x.c") == GLOBSET_YES && matches_all(two, "x.c") == GLOBSET_NO);
-    CHECK(can_match_below(two, "src") == GLOBSET_YES && can_match_below(none, "src") == GLOBSET_NO);
     for (size_t i = 0; i < ROOM; i++) room[i] = 7;
     CHECK(matches(four, "src/ab.c", room, 2, &needed) == GLOBSET_TOO_SMALL && needed == 3 && room[0] == 7);
     CHECK(matches(four, "src/ab.c", room, ROOM, &needed) == GLOBSET_DONE && needed == 3);
@@ -66,7 +60,6 @@ static void wrong_kinds(void) {
     CHECK(globset_raw_matcher_is_match_plain(&lent, raw_bytes("a"), 1) == GLOBSET_WRONG_KIND);
     CHECK(globset_raw_set_is_match_plain(&lent, raw_bytes("a"), 1) == GLOBSET_WRONG_KIND);
     CHECK(globset_raw_set_matches_all_plain(&lent, raw_bytes("a"), 1) == GLOBSET_WRONG_KIND);
-    CHECK(globset_raw_set_can_match_below_plain(&lent, raw_bytes("a"), 1) == GLOBSET_WRONG_KIND);
     CHECK(globset_raw_set_matches_plain(&lent, raw_bytes("a"), 1, room, 1, &needed) == GLOBSET_WRONG_KIND);
     CHECK(room[0] == 7 && needed == 9);
     raw_glob_free(glob);
@@ -87,7 +80,6 @@ static void *ask(void *shift) {
         CHECK(matches_all(set, path) == GLOBSET_NO);
         CHECK(matches(set, path, room, GLOBS, &needed) == GLOBSET_DONE && needed == found.count);
         CHECK(memcmp(room, found.at, needed * sizeof *room) == 0);
-        CHECK(can_match_below(set, path) == raw_searcher_can_match_below(&searcher, TEXT(path)));
     }
     raw_searcher_free(searcher);
     return NULL;

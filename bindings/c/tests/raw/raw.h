@@ -126,53 +126,12 @@ static inline globset_status raw_work_fit_matcher(raw_work *work, raw_matcher ma
     return globset_raw_work_fit(&work->object, &lent);
 }
 
-static inline globset_status raw_set_is_match(raw_set set, raw_work *work, const void *path, size_t path_len) {
-    globset_lent lent = raw_lend(set.object);
-    return globset_raw_set_is_match(&lent, &work->object, raw_bytes(path), path_len);
-}
-
-static inline globset_status raw_set_matches_all(raw_set set, raw_work *work, const void *path, size_t path_len) {
-    globset_lent lent = raw_lend(set.object);
-    return globset_raw_set_matches_all(&lent, &work->object, raw_bytes(path), path_len);
-}
-
-static inline globset_status raw_set_find(raw_set set, raw_work *work, const void *path, size_t path_len,
-                                          size_t *count) {
-    globset_lent lent = raw_lend(set.object);
-    return globset_raw_set_find(&lent, &work->object, raw_bytes(path), path_len, count);
-}
-
-static inline globset_status raw_work_found(raw_work *work, globset_indexes *indexes) {
-    indexes->at = raw_no_indexes;
-    indexes->count = 0;
-    return globset_raw_work_found(&work->object, indexes);
-}
-
-/* raw_set_find, and then raw_work_found. */
-static inline globset_status raw_set_matches(raw_set set, raw_work *work, const void *path, size_t path_len,
-                                             globset_indexes *indexes) {
-    size_t count = 0;
-    globset_status status = raw_set_find(set, work, path, path_len, &count);
-    if (status != GLOBSET_DONE) return status;
-    status = raw_work_found(work, indexes);
-    CHECK(indexes->count == count);
-    return status;
-}
-
 /* The set of globs that are lent by an array of handles. */
 static inline globset_status raw_set_of_globs(const raw_glob *globs, size_t count, raw_set *out) {
     globset_lent lents[16] = {{NULL}};
     CHECK(count <= sizeof lents / sizeof *lents);
     for (size_t i = 0; i < count; i++) lents[i] = raw_lend(globs[i].object);
     return globset_raw_set_of_globs(lents, count, &out->object);
-}
-
-static inline globset_status raw_set_is_match_many(raw_set set, raw_work *work, const void *paths, size_t paths_len,
-                                                   const size_t *ends, uint8_t *answers, size_t count) {
-    globset_lent lent = raw_lend(set.object);
-    uint8_t none = 0;
-    return globset_raw_set_is_match_many(&lent, &work->object, raw_bytes(paths), paths_len,
-                                         ends ? ends : raw_no_indexes, count, answers ? answers : &none, count);
 }
 
 static inline globset_status raw_searcher_new(raw_set set, raw_searcher *out) {
