@@ -170,7 +170,7 @@ pub extern "C" fn globset_raw_set_matches_plain(
         |object, (alloc, path)| matches_of(alloc, object, path),
     );
     match found {
-        Ok(found) => text::write_indexes(&found, room, needed),
+        Ok(found) => text::write(&found, room, needed),
         Err(Failure::OutOfMemory) => OUT_OF_MEMORY,
         Err(Failure::WrongKind) => WRONG_KIND,
     }

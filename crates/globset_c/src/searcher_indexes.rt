@@ -190,7 +190,7 @@ fn hand_over(
     ensures same_needed { result ≢ DONE → result ≢ TOO_SMALL → needed.new ≡ needed.old }
     ensures statuses { IsOneOf (DONE ∷ TOO_SMALL ∷ []) result }
 {
-    let status = text::write_indexes(&found.indexes, room, needed);
+    let status = text::write(&found.indexes, room, needed);
     if status == DONE {
         index_ends.copy_from_slice(&found.ends);
     }
