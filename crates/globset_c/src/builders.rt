@@ -21,10 +21,7 @@ pub extern "C" fn globset_raw_builder_new(alloc: Global, out: &mut Owned) -> Sta
     ensures refused { result ≢ DONE → out.new ≡ out.old }
     ensures statuses { IsOneOf (DONE ∷ OUT_OF_MEMORY ∷ []) result }
 {
-    match hand_out(alloc, Object::Builder(GlobSetBuilder::new(alloc)), out) {
-        Ok(()) => DONE,
-        Err(_) => OUT_OF_MEMORY,
-    }
+    hand_out(alloc, Object::Builder(GlobSetBuilder::new(alloc)), out)
 }
 
 /// Adds a copy of a glob after the globs of a builder.

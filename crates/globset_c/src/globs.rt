@@ -77,10 +77,7 @@ pub extern "C" fn globset_raw_glob_new(
         result }
 {
     match read(alloc, text, options) {
-        Ok(Ok(glob)) => match hand_out(alloc, Object::Glob(ReadGlob::of(glob, options)), out) {
-            Ok(()) => DONE,
-            Err(_) => OUT_OF_MEMORY,
-        },
+        Ok(Ok(glob)) => hand_out(alloc, Object::Glob(ReadGlob::of(glob, options)), out),
         Ok(Err(parse_error)) => match told(&parse_error) {
             Some(told) => {
                 *error = told;

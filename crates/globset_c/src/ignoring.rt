@@ -29,10 +29,7 @@ pub extern "C" fn globset_raw_ignore_new(alloc: Global, options: u32, out: &mut 
         return UNKNOWN_OPTION;
     }
     let builder = RulesBuilder::new().ignore_case(options == IGNORE_CASE);
-    match hand_out(alloc, Object::Ignore(builder.build_stack(alloc)), out) {
-        Ok(()) => DONE,
-        Err(_) => OUT_OF_MEMORY,
-    }
+    hand_out(alloc, Object::Ignore(builder.build_stack(alloc)), out)
 }
 
 /// Adds an ignore file of the folder that a walk is in.

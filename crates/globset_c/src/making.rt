@@ -1,24 +1,25 @@
 //! Objects that are handed out.
 
-ghost use Rattle.std.specs.Prelude.{◌≡◌, ◌≢◌, Some, Err, [], ◌∷◌, IfOk, IsOk, OnOk, OnErr};
+ghost use Rattle.std.specs.Prelude.{◌≡◌, ◌≢◌, Some, Err, [], ◌∷◌, IfOk, IsOk};
 ghost use Rattle.globset_c.specs.Statuses.{IsOneOf};
 ghost use Rattle.globset_c.specs.declared.object.Failure.TheVariants.{WrongKind};
 
 use crate::object::{Failure, Object};
 use crate::owned::Owned;
 use crate::status::{DONE, OUT_OF_MEMORY, Status, WRONG_KIND};
-use std::alloc::{AllocError, Global};
+use std::alloc::Global;
 
 /// Puts an object into a box, and lets the caller own it. After an error the owner is as it was.
-pub fn hand_out(alloc: Global, object: Object, out: &mut Owned) -> Result<(), AllocError>
-    ensures done { OnOk result (out.new.object ≡ Some object) }
-    ensures refused { OnErr result (out.new ≡ out.old) }
+pub fn hand_out(alloc: Global, object: Object, out: &mut Owned) -> Status
+    ensures done { result ≡ DONE → out.new.object ≡ Some object }
+    ensures refused { result ≢ DONE → out.new ≡ out.old }
+    ensures statuses { IsOneOf (DONE ∷ OUT_OF_MEMORY ∷ []) result }
 {
     let Ok(boxed) = Box::new(alloc, object) else {
-        return Err(AllocError);
+        return OUT_OF_MEMORY;
     };
     *out = Owned::of(boxed);
-    Ok(())
+    DONE
 }
 
 /// Lets the caller own an object that was made. After an error the owner is as it was.
@@ -30,10 +31,7 @@ pub fn give(alloc: Global, made: Result<Object, Failure>, out: &mut Owned) -> St
     ensures statuses { IsOneOf (DONE ∷ OUT_OF_MEMORY ∷ WRONG_KIND ∷ []) result }
 {
     match made {
-        Ok(object) => match hand_out(alloc, object, out) {
-            Ok(()) => DONE,
-            Err(_) => OUT_OF_MEMORY,
-        },
+        Ok(object) => hand_out(alloc, object, out),
         Err(Failure::OutOfMemory) => OUT_OF_MEMORY,
         Err(Failure::WrongKind) => WRONG_KIND,
     }

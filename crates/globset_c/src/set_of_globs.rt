@@ -36,10 +36,7 @@ pub extern "C" fn globset_raw_set_of_globs(
     let Ok(set) = set_of(alloc, globs) else {
         return OUT_OF_MEMORY;
     };
-    match hand_out(alloc, Object::Set(set), out) {
-        Ok(()) => DONE,
-        Err(_) => OUT_OF_MEMORY,
-    }
+    hand_out(alloc, Object::Set(set), out)
 }
 
 /// Returns whether each lent object is a glob.

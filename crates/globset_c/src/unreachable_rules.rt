@@ -8,7 +8,7 @@ ghost use Rattle.globset_c.specs.Statuses.{IsOneOf};
 ghost use Rattle.globset_c.specs.declared.object.Failure.TheVariants.{OutOfMemory, WrongKind};
 
 use crate::answers::{Answers, RuleAnswers};
-use crate::making::give;
+use crate::making::hand_out;
 use crate::object::{Failure, Object};
 use crate::owned::Owned;
 use crate::relations::{domain_of, is_domain};
@@ -48,7 +48,7 @@ pub extern "C" fn globset_raw_ignore_unreachable(
         return UNKNOWN_OPTION;
     }
     match answers_of(alloc, ignore.as_mut(), file, domain_of(domain), limit) {
-        Ok(Some(made)) => give(alloc, Ok(made), out),
+        Ok(Some(made)) => hand_out(alloc, made, out),
         Ok(None) => BAD_INDEX,
         Err(Failure::OutOfMemory) => OUT_OF_MEMORY,
         Err(Failure::WrongKind) => WRONG_KIND,

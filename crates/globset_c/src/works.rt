@@ -1,6 +1,6 @@
 //! Works: the memory that a thread asks matchers with.
 
-ghost use Rattle.std.specs.Prelude.{◌≡◌, ◌≢◌, ◌⊎◌, ◌≤◌, Some, [], ◌∷◌, IsSome, IsOk, OnOk, OnErr, length, vec_capacity};
+ghost use Rattle.std.specs.Prelude.{◌≡◌, ◌≢◌, ◌⊎◌, Some, [], ◌∷◌, IsSome, IsOk, OnOk};
 ghost use Rattle.globset.specs.SetValue.{FitsAsBefore, FitsMatcher};
 ghost use Rattle.globset_c.specs.Allocation.{as_object, HasGrown, IsFitFor, IsGrown, HoldsIndexesOf};
 ghost use Rattle.globset_c.specs.Kinds.{IfWork, IsMatcher, IsSet, IsWork};
@@ -28,10 +28,7 @@ pub extern "C" fn globset_raw_work_new(alloc: Global, out: &mut Owned) -> Status
         scratch,
         found: Vec::new(alloc),
     };
-    match hand_out(alloc, Object::Work(work), out) {
-        Ok(()) => DONE,
-        Err(_) => OUT_OF_MEMORY,
-    }
+    hand_out(alloc, Object::Work(work), out)
 }
 
 /// Makes a work fit another set or matcher.
