@@ -31,11 +31,11 @@ Each line of FILE is a pattern and its owners, as a CODEOWNERS has them; the las
 For each rule that never decides, its line, its pattern and the lines that cover it are written to standard output.
 With --overlaps it is each pair of rules that match a path in common, with a shortest such path.
 With --ignore, or if FILE is named .gitignore or .ignore, FILE has patterns as a .gitignore has them. Then a rule does not decide about
-what lies in an ignored directory, and the line of a rule that ignores one is written.
+what lies in an ignored directory, and the line of a rule that ignores one is written. A line that git cannot read has no rule.
 Paths are relative, and no component is empty, . or .. in them. A line says unknown where an answer takes more than 10,000 sets of
 states.
-The exit status is 0 if nothing was written, 1 if a line was, and 2 after an error. For each pattern that is wrong, the line is
-written to standard error with a mark under the place.",
+The exit status is 0 if nothing was written, 1 if a line was, and 2 after an error. For each pattern of owners that is
+wrong, the line is written to standard error with a mark under the place.",
 };
 
 /// The most rows of a search.
@@ -45,7 +45,9 @@ const LIMIT: usize = 10_000;
 pub fn run(rt: &HostRuntime, arguments: &[String]) -> Result<ExitCode, Fault> {
     match arguments {
         [argument] if asks_for_help(argument) => print_text(rt, COMMAND.help),
-        [option, name] if option.as_str() == "--overlaps" => check(rt, name.as_str(), true),
+        [option, name] if option.as_str() == "--overlaps" && !is_ignore_file(name.as_str()) => {
+            check(rt, name.as_str(), true)
+        }
         [option, name] if option.as_str() == "--ignore" => check_ignore_file(rt, name.as_str()),
         [name] if is_ignore_file(name.as_str()) => check_ignore_file(rt, name.as_str()),
         [option] if matches!(option.as_str(), "--overlaps" | "--ignore") => Err(Fault::Usage),
