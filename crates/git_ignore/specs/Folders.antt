@@ -1,8 +1,8 @@
 -- Ignore files of nested folders, and which of their rules decides about a path. Paths begin in a top folder.
 use Rattle.std.specs.Prelude.{ℕ, suc, Bool, List, [], ◌∷◌, length, take, drop, Option, None, if◌then◌else◌}
 use Rattle.std.specs.Str.{bytes_eq}
+use Rattle.std.specs.Option.{option_or}
 use Rattle.git_ignore.specs.Rules.{deciding_rule}
-use Rattle.git_ignore.specs.TwoRules.{or_else}
 use Rattle.git_ignore.specs.declared.decision.DecidingRule.{DecidingRule}
 
 -- An ignore file: its folder, its bytes, and whether its rules ignore case. The folder is empty for the top folder, and otherwise a
@@ -23,7 +23,7 @@ file_rule index path is_folder file = if is_in file.folder path then deciding_ru
 -- the rule of the last of these files that has one; the first file has this index
 abbrev pub rule_from : ℕ → List IgnoreFile → List ℕ → Bool → Option DecidingRule
 rule_from index [] path is_folder = None
-rule_from index (file ∷ files) path is_folder = or_else (rule_from (suc index) files path is_folder) (file_rule index path is_folder file)
+rule_from index (file ∷ files) path is_folder = option_or (rule_from (suc index) files path is_folder) (file_rule index path is_folder file)
 
 -- The rule of files that decides about a path alone, the top file first: that of the last file that has any. So the rules of a
 -- folder take precedence over the rules above it.

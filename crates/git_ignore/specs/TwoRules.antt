@@ -1,24 +1,20 @@
 -- The rule that decides about a path and the folders above it, in three ways. Each is made from the rules that decide about paths
 -- alone, `alone`: those of a file, or of several files together.
 use Rattle.std.specs.Prelude.{ℕ, Bool, true, ◌==◌, List, [], ◌∷◌, Option, Some, None, map, if◌then◌else◌}
+use Rattle.std.specs.Option.{option_or}
 use Rattle.git_ignore.specs.declared.decision.DecideBy.{DecideBy}
 use Rattle.git_ignore.specs.declared.decision.DecideBy.TheVariants.{Git, Nearest, PathAlone}
 use Rattle.git_ignore.specs.declared.decision.DecidingRule.{DecidingRule}
 
--- an answer, or this answer if there is none
-abbrev pub or_else : {Y : Type 0} → Option Y → Option Y → Option Y
-or_else None other = other
-or_else (Some y) other = Some y
-
 -- the answer about the first of these that has any
 abbrev pub first_answer : {X Y : Type 0} → (X → Option Y) → List X → Option Y
 first_answer about [] = None
-first_answer about (x ∷ xs) = or_else (about x) (first_answer about xs)
+first_answer about (x ∷ xs) = option_or (about x) (first_answer about xs)
 
 -- the answer about the last of these that has any
 abbrev pub last_answer : {X Y : Type 0} → (X → Option Y) → List X → Option Y
 last_answer about [] = None
-last_answer about (x ∷ xs) = or_else (last_answer about xs) (about x)
+last_answer about (x ∷ xs) = option_or (last_answer about xs) (about x)
 
 -- the rule, if it ignores the path
 abbrev pub ignoring : Option DecidingRule → Option DecidingRule
@@ -41,6 +37,6 @@ ignored_above alone path = first_answer (λ folder. ignoring (alone folder true)
 -- nearest folder above it that has one: all that is below an ignored folder or a kept one has the folder's decision, except where a
 -- deeper folder or the path has its own.
 unfoldable pub deciding : DecideBy → (List ℕ → Bool → Option DecidingRule) → List ℕ → Bool → Option DecidingRule
-deciding Git alone path is_folder = or_else (ignored_above alone path) (alone path is_folder)
-deciding Nearest alone path is_folder = or_else (alone path is_folder) (last_answer (λ folder. alone folder true) (folders_above path))
+deciding Git alone path is_folder = option_or (ignored_above alone path) (alone path is_folder)
+deciding Nearest alone path is_folder = option_or (alone path is_folder) (last_answer (λ folder. alone folder true) (folders_above path))
 deciding PathAlone alone path is_folder = alone path is_folder

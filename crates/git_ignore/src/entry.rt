@@ -41,14 +41,12 @@ impl RuleEntry {
 pub fn told_of(file: usize, entry: Option<RuleEntry>) -> Option<DecidingRule>
     ensures { result ≡ told_of file entry }
 {
-    match entry {
-        Some(entry) => Some(DecidingRule {
-            file,
-            line: entry.line,
-            is_negated: entry.is_negated,
-        }),
-        None => None,
-    }
+    let entry = entry?;
+    Some(DecidingRule {
+        file,
+        line: entry.line,
+        is_negated: entry.is_negated,
+    })
 }
 
 /// Returns the last of the entries whose indexes are in a set that is for folders, or for other paths.

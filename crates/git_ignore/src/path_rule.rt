@@ -1,6 +1,6 @@
 //! What rules tell about a path in one pass.
 
-ghost use Rattle.std.specs.Prelude.{◌≡◌, ◌||◌};
+ghost use Rattle.std.specs.Prelude.{◌≡◌};
 ghost use Rattle.git_ignore.specs.inner.PathRules.{joined, without_rule};
 
 use crate::decision::DecidingRule;
@@ -11,7 +11,7 @@ pub struct PathRule {
     pub rule: Option<DecidingRule>,
     /// Whether a rule that is not negated matches a folder above the path. Otherwise none of them is ignored.
     pub may_be_ignored: bool,
-    /// Whether a negated rule matches a folder above the path.
+    /// Whether a negated rule matches a folder above the path. If neither kind does, none of them has a rule that decides.
     pub may_be_kept: bool,
 }
 
@@ -27,23 +27,12 @@ impl PathRule {
         }
     }
 
-    /// Returns whether a rule matches a folder above the path. Otherwise none of them has a rule that decides.
-    pub fn may_be_decided(self) -> bool
-        ensures { result ≡ (self.may_be_ignored || self.may_be_kept) }
-    {
-        self.may_be_ignored || self.may_be_kept
-    }
-
     /// Returns what these rules and later ones tell together; the later ones take precedence.
     pub fn joined(self, later: PathRule) -> PathRule
         ensures { result ≡ joined self later }
     {
-        let rule = match later.rule {
-            Some(rule) => Some(rule),
-            None => self.rule,
-        };
         PathRule {
-            rule,
+            rule: later.rule.or(self.rule),
             may_be_ignored: self.may_be_ignored || later.may_be_ignored,
             may_be_kept: self.may_be_kept || later.may_be_kept,
         }

@@ -5,7 +5,7 @@ ghost use Rattle.std.specs.List.{list_all};
 ghost use Rattle.std.specs.Option.{option_copied};
 ghost use Rattle.ignore_pattern.specs.Lines.{line_text, lines_of, without_byte_order_mark};
 ghost use Rattle.ignore_pattern.specs.Patterns.{pattern_of_line};
-ghost use Rattle.git_ignore.specs.Rules.{is_unread, lacks_pattern, line_at, lines_of_rules, patterns_of, rules_from, rules_of, unread_from};
+ghost use Rattle.git_ignore.specs.Rules.{is_unread, lacks_pattern, line_at, lines_of_rules, patterns_of, rules_of, unread_lines_of};
 ghost use Rattle.git_ignore.specs.inner.Entries.{AddsRules, ArePartsOf, entry_of, rule_at, unread_at};
 
 use crate::entry::RuleEntry;
@@ -16,7 +16,7 @@ use std::alloc::{AllocError, Global};
 /// The bytes that some editors put at the start of a text.
 const BYTE_ORDER_MARK: &[u8] = b"\xef\xbb\xbf";
 
-/// The rules that were read so far: their patterns, and an entry for each.
+/// The rules of a file, as far as it was read: their patterns, and an entry for each.
 #[derive(Drop)]
 pub struct FileRules {
     pub patterns: Vec<IgnorePattern>,
@@ -26,35 +26,26 @@ pub struct FileRules {
 }
 
 impl FileRules {
-    /// Returns no rules. It allocates nothing.
-    pub fn new(alloc: Global) -> FileRules
-        ensures rules { ArePartsOf [] result.patterns.items result.entries.items }
-        ensures unread { result.unread.items ≡ [] }
+    /// Reads the rules of an ignore file, given by its bytes.
+    pub fn read(alloc: Global, file: &[u8]) -> Result<FileRules, AllocError>
+        ensures rules { IfOk result
+            (λ r. ArePartsOf (rules_of file.now) r.patterns.items r.entries.items) }
+        ensures unread { IfOk result (λ r. r.unread.items ≡ unread_lines_of file.now) }
     {
-        FileRules {
+        let mut rules = FileRules {
             patterns: Vec::new(alloc),
             entries: Vec::new(alloc),
             unread: Vec::new(alloc),
-        }
-    }
-
-    /// Adds the rules of some lines, and the numbers of those that git cannot read. The first line has the number 1.
-    pub fn push_lines(&mut self, alloc: Global, bytes: &[u8]) -> Result<(), AllocError>
-        requires { ArePartsOf [] self.old.patterns.items self.old.entries.items }
-        ensures rules { OnOk result
-            (ArePartsOf (rules_from 1 (lines_of bytes.now)) self.new.patterns.items
-            self.new.entries.items) }
-        ensures unread { OnOk result
-            (self.new.unread.items ≡ self.old.unread.items ++ unread_from 1 (lines_of bytes.now)) }
-    {
-        let mut rest = bytes;
+        };
+        let mut rest = after_mark(file);
         let mut number = 1;
         while let Some(end) = memchr(b'\n', rest) {
-            self.push_line(alloc, number, &rest[..end])?;
+            rules.push_line(alloc, number, &rest[..end])?;
             rest = &rest[end + 1..];
             number += 1;
         }
-        self.push_line(alloc, number, rest)
+        rules.push_line(alloc, number, rest)?;
+        Ok(rules)
     }
 
     /// Adds the rule of a line, if there is any, or else the line's number, if git cannot read it.
@@ -126,14 +117,9 @@ pub fn rule_patterns(alloc: Global, file: &[u8]) -> Result<RulePatterns, AllocEr
         (λ read. read.patterns.items ≡ patterns_of (rules_of file.now)) }
     ensures lines { IfOk result (λ read. read.lines.items ≡ lines_of_rules (rules_of file.now)) }
 {
-    let mut read = FileRules::new(alloc);
-    read.push_lines(alloc, after_mark(file))?;
-    let FileRules {
-        patterns,
-        entries,
-        unread: _,
-    } = read;
-    let lines = lines_of(alloc, &entries)?;
+    let read = FileRules::read(alloc, file)?;
+    let lines = lines_of(alloc, &read.entries)?;
+    let patterns = read.patterns;
     Ok(RulePatterns { patterns, lines })
 }
 

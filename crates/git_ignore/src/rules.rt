@@ -1,18 +1,15 @@
 //! The rules of an ignore file.
 
-ghost use Rattle.std.specs.Arc.{arc_value};
 ghost use Rattle.std.specs.Option.{option_copied};
 ghost use Rattle.std.specs.Prelude.{◌≡◌, false, IfOk};
-ghost use Rattle.git_ignore.specs.Rules.{deciding_rule, decision_of, line_text_at, unread_lines_of};
+ghost use Rattle.git_ignore.specs.Rules.{decision_of, line_text_at, unread_lines_of};
 ghost use Rattle.git_ignore.specs.RulesValue.{FitsRules, rules_rule};
 ghost use Rattle.git_ignore.specs.TwoRules.{deciding};
 ghost use Rattle.git_ignore.specs.declared.decision.DecideBy.TheVariants.{Git, Nearest};
-ghost use Rattle.git_ignore.specs.inner.Entries.{rules_value};
-ghost use Rattle.git_ignore.specs.inner.PathRules.{IsPathRule};
 
 use crate::decision::{DecideBy, DecidingRule, Decision, decision_of};
 use crate::path_rule::PathRule;
-use crate::reading::{FileRules, after_mark};
+use crate::reading::FileRules;
 use crate::scratch::IgnoreScratch;
 use crate::stored::StoredRules;
 use crate::two_rules::{DecidesAlone, deciding};
@@ -32,7 +29,7 @@ use std::sync::Arc;
 #[derive(Drop)]
 pub struct Rules {
     /// Searchers share it.
-    stored: Arc<StoredRules>,
+    pub(crate) stored: Arc<StoredRules>,
     unread: Vec<usize>,
 }
 
@@ -69,16 +66,13 @@ impl Rules {
         ensures file { IfOk result (λ r. r.file ≡ file.now) }
         ensures ignore_case { IfOk result (λ r. r.ignore_case ≡ ignore_case) }
     {
-        let mut read = FileRules::new(alloc);
-        read.push_lines(alloc, after_mark(file))?;
-        let FileRules {
-            patterns,
-            entries,
-            unread,
-        } = read;
-        let stored = StoredRules::new(alloc, &patterns, entries, file, ignore_case)?;
-        let stored = Arc::new(alloc, stored)?;
-        Ok(Rules { stored, unread })
+        let read = FileRules::read(alloc, file)?;
+        let entries = read.entries;
+        let stored = StoredRules::new(alloc, &read.patterns, entries, file, ignore_case)?;
+        Ok(Rules {
+            stored: Arc::new(alloc, stored)?,
+            unread: read.unread,
+        })
     }
 
     /// Returns the decision of the file about a path below its folder: the last rule that applies decides.
@@ -91,7 +85,7 @@ impl Rules {
         ensures decision { result ≡ decision_of (rules_rule self.now path.now is_folder) }
         ensures scratch { scratch.new ≡ scratch.old }
     {
-        decision_of(self.rule_in(0, path, is_folder, scratch))
+        decision_of(self.rule_alone(path, is_folder, scratch))
     }
 
     /// Returns the decision of the file about a path by git's rule ([`DecideBy::Git`]).
@@ -216,73 +210,6 @@ impl Rules {
     {
         self.stored.line_text(number)
     }
-
-    /// Returns the bytes of the file.
-    pub(crate) fn file(&self) -> &[u8]
-        ensures { result.now ≡ self.now.file }
-    {
-        self.stored.file()
-    }
-
-    /// Returns the rule that decides about a path alone, if these are the rules of the file with this index.
-    pub(crate) fn rule_in(
-        &self,
-        file: usize,
-        path: &[u8],
-        is_folder: bool,
-        scratch: &mut IgnoreScratch,
-    ) -> Option<DecidingRule>
-        requires { FitsRules scratch.old self.now }
-        ensures rule { result
-            ≡ deciding_rule self.now.ignore_case self.now.file file path.now is_folder }
-        ensures scratch { scratch.new ≡ scratch.old }
-    {
-        self.stored
-            .deciding_rule(file, path, is_folder, scratch, &mut None)
-    }
-
-    /// Returns that rule, and what is known of the folders above the path.
-    pub(crate) fn path_rule_in(
-        &self,
-        file: usize,
-        path: &[u8],
-        is_folder: bool,
-        scratch: &mut IgnoreScratch,
-    ) -> PathRule
-        requires { FitsRules scratch.old self.now }
-        ensures rule { IsPathRule (deciding_rule self.now.ignore_case self.now.file file) path.now
-            is_folder result }
-        ensures scratch { scratch.new ≡ scratch.old }
-    {
-        self.stored
-            .path_rule(file, path, is_folder, scratch, &mut None)
-    }
-
-    /// Returns the number of states of the automaton.
-    pub(crate) fn state_count(&self) -> usize
-        ensures { result ≡ self.now.states }
-    {
-        self.stored.state_count()
-    }
-
-    /// Returns the number of rules.
-    pub(crate) fn rule_count(&self) -> usize
-        ensures { result ≡ self.now.rules }
-    {
-        self.stored.rule_count()
-    }
-
-    /// Keeps rows for calls, as far as there is memory for them.
-    pub(crate) fn keep_cache(&self) {
-        self.stored.keep_cache();
-    }
-
-    /// Returns what searchers share with the rules. Fails only if 2^63 values share it.
-    pub(crate) fn share(&self) -> Result<Arc<StoredRules>, AllocError>
-        ensures { IfOk result (λ stored. rules_value (arc_value stored) ≡ self.now) }
-    {
-        Arc::try_clone(&self.stored)
-    }
 }
 
 impl DecidesAlone for Rules {
@@ -292,16 +219,8 @@ impl DecidesAlone for Rules {
 
     ghost alone = { rules_rule };
 
-    fn rule_alone(
-        &self,
-        path: &[u8],
-        is_folder: bool,
-        scratch: &mut IgnoreScratch,
-    ) -> Option<DecidingRule> {
-        self.rule_in(0, path, is_folder, scratch)
-    }
-
     fn path_rule(&self, path: &[u8], is_folder: bool, scratch: &mut IgnoreScratch) -> PathRule {
-        self.path_rule_in(0, path, is_folder, scratch)
+        self.stored
+            .path_rule(0, path, is_folder, scratch, &mut None)
     }
 }

@@ -12,8 +12,8 @@ use std::marker::Model;
 /// All the memory that rules need to decide about a path: two bits for each state of their automaton, and a bit for each rule and two
 /// more. The automaton has about as many states as the patterns of the file have characters.
 ///
-/// With a scratch that fits the rules, [`Rules::decide`] cannot fail. What earlier calls left in it has no effect. It serves all
-/// rules that it fits ([`IgnoreScratch::fits`]), and [`IgnoreScratch::fit`] makes it fit more rules.
+/// [`Rules::decide`] requires a scratch that fits the rules, and cannot fail. What earlier calls left in it has no effect. It serves
+/// all rules that it fits ([`IgnoreScratch::fits`]), and [`IgnoreScratch::fit`] makes it fit more rules.
 ///
 /// Contracts see two numbers: of states, and of rules.
 #[derive(Drop)]
@@ -78,7 +78,7 @@ impl IgnoreScratch {
     pub fn fits(&self, rules: &Rules) -> bool
         ensures { IsTrue result ↔ FitsRules self.now rules.now }
     {
-        rules.state_count() <= self.states && rules.rule_count() <= self.rules
+        rules.stored.state_count() <= self.states && rules.stored.rule_count() <= self.rules
     }
 
     /// Makes the scratch fit more rules. It does not allocate if it fits them already. Otherwise the rules also get memory for
@@ -91,8 +91,8 @@ impl IgnoreScratch {
         ensures kept { OnErr result (self.new ≡ self.old) }
         ensures succeeds_if_fits { FitsRules self.old rules.now → IsOk result }
     {
-        let states = self.states.max(rules.state_count());
-        let count = self.rules.max(rules.rule_count());
+        let states = self.states.max(rules.stored.state_count());
+        let count = self.rules.max(rules.stored.rule_count());
         self.sets.reserve(states)?;
         if count > self.rules {
             let Some(indexes) = count.checked_add(2) else {
@@ -102,7 +102,7 @@ impl IgnoreScratch {
         }
         // What fitted before takes no memory, for rows either.
         if states > self.states || count > self.rules {
-            rules.keep_cache();
+            rules.stored.keep_cache();
         }
         self.states = states;
         self.rules = count;

@@ -58,7 +58,7 @@ impl RulesSearcher {
     pub fn new(alloc: Global, rules: &Rules) -> Result<RulesSearcher, AllocError>
         ensures { IfOk result (λ s. s ≡ rules.now) }
     {
-        let stored = rules.share()?;
+        let stored = Arc::try_clone(&rules.stored)?;
         let scratch = IgnoreScratch::new(alloc, rules)?;
         let cache = stored.new_cache(alloc)?;
         Ok(RulesSearcher {
@@ -90,6 +90,7 @@ impl RulesSearcher {
         ensures kept { self.new ≡ self.old }
     {
         self.stored
-            .deciding_rule(0, path, is_folder, &mut self.scratch, &mut self.cache)
+            .path_rule(0, path, is_folder, &mut self.scratch, &mut self.cache)
+            .rule
     }
 }

@@ -6,11 +6,11 @@ ghost use Rattle.git_ignore.specs.Rules.{decision_of, line_text_at, unread_lines
 ghost use Rattle.git_ignore.specs.Folders.{files_rule};
 ghost use Rattle.git_ignore.specs.StackValue.{at_top, entered, file_at, left, stack_files, stack_rule, with_file};
 ghost use Rattle.git_ignore.specs.TwoRules.{ignored_above, ignoring};
-ghost use Rattle.git_ignore.specs.inner.Stacks.{file_of};
 ghost use Rattle.git_ignore.specs.declared.decision.DecideBy.TheVariants.{Git, Nearest};
 
 use crate::decision::{DecideBy, DecidingRule, Decision, decision_of, ignoring};
 use crate::folder_rules::FolderRules;
+use crate::rules::Rules;
 use crate::scratch::IgnoreScratch;
 use crate::two_rules::deciding;
 use std::alloc::{AllocError, Global};
@@ -259,10 +259,7 @@ impl IgnoreStack {
     pub fn file(&self, file: usize) -> Option<&[u8]>
         ensures { option_copied result ≡ file_at self.now file }
     {
-        match self.rules_at(file) {
-            Some(rules) => Some(rules.file()),
-            None => None,
-        }
+        Some(self.rules_at(file)?.stored.file())
     }
 
     /// Returns the numbers, counted from 1, of the lines of a file that git cannot read, as [`crate::Rules::unread_lines`] does; or
@@ -270,10 +267,7 @@ impl IgnoreStack {
     pub fn unread_lines(&self, file: usize) -> Option<&[usize]>
         ensures { option_copied result ≡ option_map unread_lines_of (file_at self.now file) }
     {
-        match self.rules_at(file) {
-            Some(rules) => Some(rules.unread_lines()),
-            None => None,
-        }
+        Some(self.rules_at(file)?.unread_lines())
     }
 
     /// Returns the text of a line of a file, as [`crate::Rules::line_text`] does, or `None` if there is no file with this index or it
@@ -292,21 +286,15 @@ impl IgnoreStack {
         ensures { option_copied result
             ≡ option_and_then (λ bytes. line_text_at bytes number) (file_at self.now file) }
     {
-        match self.rules_at(file) {
-            Some(rules) => rules.line_text(number),
-            None => None,
-        }
+        self.rules_at(file)?.line_text(number)
     }
 
     /// Returns the rules of the file with this index, if there is one.
-    fn rules_at(&self, file: usize) -> Option<&FolderRules>
+    fn rules_at(&self, file: usize) -> Option<&Rules>
         ensures { MatchOption result (file_at self.now file ≡ None)
-            (λ rules. file_at self.now file ≡ Some (file_of rules.now).bytes) }
+            (λ rules. file_at self.now file ≡ Some rules.now.file) }
     {
-        match self.files.get(file) {
-            Some(rules) => Some(rules),
-            None => None,
-        }
+        Some(&self.files.get(file)?.rules)
     }
 
     /// Goes down into a folder of this name, which this rule ignores if any does. After an error nothing has changed.

@@ -88,10 +88,7 @@ impl StoredRules {
     pub fn line_text(&self, number: usize) -> Option<&[u8]>
         ensures { option_copied result ≡ line_text_at self.now.file number }
     {
-        match line_at(after_mark(&self.file), number) {
-            Some(line) => Some(line_text(line)),
-            None => None,
-        }
+        Some(line_text(line_at(after_mark(&self.file), number)?))
     }
 
     /// Returns the number of states of the automaton.
@@ -154,24 +151,5 @@ impl StoredRules {
             may_be_ignored: scratch.found.has(count),
             may_be_kept: scratch.found.has(count + 1),
         }
-    }
-
-    /// Returns the rule that decides about a path alone, as [`StoredRules::path_rule`] does.
-    pub fn deciding_rule(
-        &self,
-        file: usize,
-        path: &[u8],
-        is_folder: bool,
-        scratch: &mut IgnoreScratch,
-        cache: &mut Option<Cache>,
-    ) -> Option<DecidingRule>
-        requires fits { FitsRules scratch.old (rules_value self.now) }
-        requires cache { IfSome cache.old (λ c. c ≡ self.now.automaton) }
-        ensures rule { result
-            ≡ deciding_rule self.now.ignore_case self.now.file file path.now is_folder }
-        ensures scratch { scratch.new ≡ scratch.old }
-        ensures cache { cache.new ≡ cache.old }
-    {
-        self.path_rule(file, path, is_folder, scratch, cache).rule
     }
 }

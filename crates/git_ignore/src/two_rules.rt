@@ -27,7 +27,10 @@ pub trait DecidesAlone {
     ) -> Option<DecidingRule>
         requires { fits scratch.old self.now }
         ensures rule { result ≡ alone self.now path.now is_folder }
-        ensures scratch { scratch.new ≡ scratch.old };
+        ensures scratch { scratch.new ≡ scratch.old }
+    {
+        self.path_rule(path, is_folder, scratch).rule
+    }
 
     /// Returns that rule, and what is known of the folders above the path.
     fn path_rule(&self, path: &[u8], is_folder: bool, scratch: &mut IgnoreScratch) -> PathRule
@@ -100,7 +103,7 @@ fn nearest<R: DecidesAlone>(
     if told.rule.is_some() {
         return told.rule;
     }
-    if !told.may_be_decided() {
+    if !(told.may_be_ignored || told.may_be_kept) {
         return None;
     }
     for end in (0..path.len()).rev() {

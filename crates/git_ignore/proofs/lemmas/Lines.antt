@@ -6,7 +6,7 @@ use Rattle.std.specs.Option.{option_map}
 use Rattle.memchr.specs.Find.{IsFirstByte, is_byte}
 use Rattle.ignore_pattern.specs.Lines.{line_text, lines_of, without_byte_order_mark}
 use Rattle.ignore_pattern.specs.Patterns.{Pattern, pattern_of_line}
-use Rattle.git_ignore.specs.Rules.{Rule, is_unread, line_at, line_text_at, rules_from, unread_from, unread_lines_of}
+use Rattle.git_ignore.specs.Rules.{Rule, is_unread, line_at, line_text_at, rules_from, unread_from}
 use Rattle.git_ignore.specs.declared.entry.RuleEntry.{RuleEntry}
 use Rattle.git_ignore.specs.inner.Entries.{AddsRules, ArePartsOf, AreReadUpTo, rule_at, unread_at}
 
@@ -108,11 +108,6 @@ last_unread all now new n rest h none put =
     put ∙ ap (λ (ns : List ℕ). now ++ ns) (sym (unread_of_first n rest [] ∙ append-nil (unread_at n (is_unread rest))))
     ∙ ap (λ (ls : List (List ℕ)). now ++ unread_from n ls) (sym (one_line rest none))
     ∙ h
-
--- the numbers are those of the file, of whose bytes all lines were read
-pub unread_of_file : (file bytes start now : List ℕ) → bytes ≡ without_byte_order_mark file → start ≡ [] → now ≡ start ++ unread_from 1 (lines_of bytes) → now ≡ unread_lines_of file
-unfolding unread_lines_of
-unread_of_file file bytes start now after none put = put ∙ (λ k. none k ++ unread_from 1 (lines_of (after k)))
 
 -- ---- a line by its number
 

@@ -1,6 +1,7 @@
 -- What one pass over a path tells of the folders above it.
 use Rattle.std.proofs.Common.{◌≡◌, inl, inr, ℕ, ◌+◌, List, [], ◌∷◌, ◌++◌, length, take, get_or, Bool, true, false, ◌||◌, refl, ap, sym, ◌∙◌}
 use Rattle.std.specs.Prelude.{◌==◌, ◌<◌, if◌then◌else◌, map, not, Option, Some, None}
+use Rattle.std.specs.Option.{option_or}
 use Rattle.std.proofs.lemmas.Bool.{eqb-true, false≢true}
 use Rattle.bit_sets.specs.Indexes.{has_index}
 use Rattle.bit_sets.specs.Texts.{AllBytes}
@@ -11,7 +12,7 @@ use Rattle.ignore_pattern.specs.Automata.{IsAutomatonOf, SomeAbove}
 use Rattle.ignore_pattern.specs.Patterns.{pattern_matches}
 use Rattle.git_ignore.specs.Folders.{file_rule, files_rule}
 use Rattle.git_ignore.specs.Rules.{Rule, deciding_rule, last_rule, patterns_of, rules_of, told}
-use Rattle.git_ignore.specs.TwoRules.{first_answer, folders_above, ignoring, last_answer, or_else}
+use Rattle.git_ignore.specs.TwoRules.{first_answer, folders_above, ignoring, last_answer}
 use Rattle.git_ignore.specs.declared.decision.DecidingRule.{DecidingRule}
 use Rattle.git_ignore.specs.declared.folder_rules.FolderRules.{FolderRules}
 use Rattle.git_ignore.specs.declared.path_rule.PathRule.{PathRule}
@@ -38,7 +39,7 @@ not_so false h = refl
 
 first_below : (about : List ℕ → Option DecidingRule) (c : ℕ) (fs : List (List ℕ)) → first_answer about (map (λ f. c ∷ f) fs) ≡ first_answer (λ f. about (c ∷ f)) fs
 first_below about c [] = refl
-first_below about c (f ∷ fs) = ap (λ (o : Option DecidingRule). or_else (about (c ∷ f)) o) (first_below about c fs)
+first_below about c (f ∷ fs) = ap (λ (o : Option DecidingRule). option_or (about (c ∷ f)) o) (first_below about c fs)
 
 pub none_first : (about : List ℕ → Option DecidingRule) (path : List ℕ) → NoneAbove about path → first_answer about (folders_above path) ≡ None
 none_first about [] h = refl
@@ -49,12 +50,12 @@ none_first about (c ∷ cs) h =
     deeper = map (λ f. c ∷ f) (folders_above cs)
 
     of : (b : Bool) → (c == 47) ≡ b → first_answer about deeper ≡ None → first_answer about (if b then [] ∷ deeper else deeper) ≡ None
-    of true e later = (λ i. or_else (h [] cs (ap (λ (x : ℕ). x ∷ cs) (eqb-true c 47 e)) i) (later i))
+    of true e later = (λ i. option_or (h [] cs (ap (λ (x : ℕ). x ∷ cs) (eqb-true c 47 e)) i) (later i))
     of false e later = later
 
 last_below : (about : List ℕ → Option DecidingRule) (c : ℕ) (fs : List (List ℕ)) → last_answer about (map (λ f. c ∷ f) fs) ≡ last_answer (λ f. about (c ∷ f)) fs
 last_below about c [] = refl
-last_below about c (f ∷ fs) = ap (λ (o : Option DecidingRule). or_else o (about (c ∷ f))) (last_below about c fs)
+last_below about c (f ∷ fs) = ap (λ (o : Option DecidingRule). option_or o (about (c ∷ f))) (last_below about c fs)
 
 pub none_last : (about : List ℕ → Option DecidingRule) (path : List ℕ) → NoneAbove about path → last_answer about (folders_above path) ≡ None
 none_last about [] h = refl
@@ -65,7 +66,7 @@ none_last about (c ∷ cs) h =
     deeper = map (λ f. c ∷ f) (folders_above cs)
 
     of : (b : Bool) → (c == 47) ≡ b → last_answer about deeper ≡ None → last_answer about (if b then [] ∷ deeper else deeper) ≡ None
-    of true e later = (λ i. or_else (later i) (h [] cs (ap (λ (x : ℕ). x ∷ cs) (eqb-true c 47 e)) i))
+    of true e later = (λ i. option_or (later i) (h [] cs (ap (λ (x : ℕ). x ∷ cs) (eqb-true c 47 e)) i))
     of false e later = later
 
 -- ---- the rules of a file
@@ -124,7 +125,7 @@ run_tells c bytes path file n is_folder m before after r is all adds count rule 
 
 -- ---- several files
 
-none_either : (o p : Option DecidingRule) → ignoring o ≡ None → ignoring p ≡ None → ignoring (or_else o p) ≡ None
+none_either : (o p : Option DecidingRule) → ignoring o ≡ None → ignoring p ≡ None → ignoring (option_or o p) ≡ None
 none_either None p lacks none = none
 none_either (Some rule) p lacks none = lacks
 
@@ -141,16 +142,16 @@ pub files_tell : (files : List FolderRules) (i : ℕ) (f : FolderRules) (path : 
     → IsPathRule (files_rule (files_of (take i files))) path is_folder told' → IsPathRule (λ p d. file_rule i p d (file_of f)) path is_folder here
     → IsPathRule (files_rule (files_of (take (i + 1) files))) path is_folder (joined told' here)
 files_tell files i f path is_folder told' here low at before last = record {
-  rule = (λ k. or_else (last.rule k) (before.rule k)) ∙ sym (more path is_folder);
+  rule = (λ k. option_or (last.rule k) (before.rule k)) ∙ sym (more path is_folder);
   not_ignored = λ lacks folder rest cut. ap ignoring (more folder true)
       ∙ none_either (file_rule i folder true (file_of f)) (files_rule (files_of (take i files)) folder true)
       (last.not_ignored (or_right_false told'.may_be_ignored here.may_be_ignored lacks) folder rest cut) (before.not_ignored (or_left_false told'.may_be_ignored here.may_be_ignored lacks) folder rest cut);
   undecided = λ lacks folder rest cut. more folder true
-      ∙ (λ k. or_else (last.undecided (second told'.may_be_ignored here.may_be_ignored told'.may_be_kept here.may_be_kept lacks) folder rest cut k)
+      ∙ (λ k. option_or (last.undecided (second told'.may_be_ignored here.may_be_ignored told'.may_be_kept here.may_be_kept lacks) folder rest cut k)
       (before.undecided (first told'.may_be_ignored here.may_be_ignored told'.may_be_kept here.may_be_kept lacks) folder rest cut k));
 }
   where
-    more : (p : List ℕ) (d : Bool) → files_rule (files_of (take (i + 1) files)) p d ≡ or_else (file_rule i p d (file_of f)) (files_rule (files_of (take i files)) p d)
+    more : (p : List ℕ) (d : Bool) → files_rule (files_of (take (i + 1) files)) p d ≡ option_or (file_rule i p d (file_of f)) (files_rule (files_of (take i files)) p d)
     more p d = files_up_to files i f p d low at
 
     first : (a b x y : Bool) → ((a || b) || (x || y)) ≡ false → (a || x) ≡ false

@@ -2,48 +2,49 @@
 use Rattle.std.proofs.Common.{◌≡◌, ℕ, zero, suc, ◌+◌, ◌-◌, ◌<◌, ◌≤◌, List, [], ◌∷◌, ◌++◌, length, take, drop, get_or, Bool, true, false, refl, ap, sym, subst, ◌∙◌, arith, length-append}
 use Rattle.std.specs.Prelude.{◌==◌, if◌then◌else◌, map, Option, None, is_some}
 use Rattle.std.specs.Str.{bytes_eq}
+use Rattle.std.specs.Option.{option_or}
 use Rattle.std.proofs.lemmas.Bool.{false_from_ne_true}
 use Rattle.std.proofs.lemmas.List.{length-map, map-append, take_more, take-append-le, length-take}
 use Rattle.std.proofs.lemmas.Slice.Eq.{bytes_eq-Decides}
 use Rattle.std.proofs.Math.Seq.{take-append_seam, take-length}
 use Rattle.git_ignore.specs.Folders.{IgnoreFile, is_in, file_rule, files_rule, rule_from}
-use Rattle.git_ignore.specs.TwoRules.{or_else, first_answer, folders_above, ignoring, ignored_above}
+use Rattle.git_ignore.specs.TwoRules.{first_answer, folders_above, ignoring, ignored_above}
 use Rattle.git_ignore.specs.Rules.{deciding_rule}
 use Rattle.git_ignore.specs.RulesValue.{FitsAsBefore, FitsRules, ScratchValue}
 use Rattle.git_ignore.specs.declared.decision.DecidingRule.{DecidingRule}
 use Rattle.git_ignore.specs.declared.folder_rules.FolderRules.{FolderRules}
 use Rattle.git_ignore.specs.declared.stack.FolderLevel.{FolderLevel}
 use Rattle.git_ignore.specs.inner.Stacks.{file_of, files_of, FitAll, AreLevels}
-use Rattle.git_ignore.proofs.lemmas.TwoRules.{or_else_grouped, or_else_nothing, or_else_some}
+use Rattle.git_ignore.proofs.lemmas.TwoRules.{option_or_grouped, option_or_nothing, option_or_some}
 
 -- ---- one file more
 
 rule_from_more : (n : ℕ) (files : List IgnoreFile) (f : IgnoreFile) (path : List ℕ) (is_folder : Bool)
-    → rule_from n (files ++ f ∷ []) path is_folder ≡ or_else (file_rule (n + length files) path is_folder f) (rule_from n files path is_folder)
+    → rule_from n (files ++ f ∷ []) path is_folder ≡ option_or (file_rule (n + length files) path is_folder f) (rule_from n files path is_folder)
 rule_from_more n [] f path d =
     let same : n ≡ n + 0 = omega arith in
-    ap (λ (k : ℕ). file_rule k path d f) same ∙ sym (or_else_nothing (file_rule (n + 0) path d f))
+    ap (λ (k : ℕ). file_rule k path d f) same ∙ sym (option_or_nothing (file_rule (n + 0) path d f))
 rule_from_more n (g ∷ gs) f path d =
     let same : suc n + length gs ≡ n + suc (length gs) = omega arith in
-    ap (λ (o : Option DecidingRule). or_else o (file_rule n path d g)) (rule_from_more (suc n) gs f path d)
-    ∙ or_else_grouped (file_rule (suc n + length gs) path d f) (rule_from (suc n) gs path d) (file_rule n path d g)
-    ∙ ap (λ (k : ℕ). or_else (file_rule k path d f) (or_else (rule_from (suc n) gs path d) (file_rule n path d g))) same
+    ap (λ (o : Option DecidingRule). option_or o (file_rule n path d g)) (rule_from_more (suc n) gs f path d)
+    ∙ option_or_grouped (file_rule (suc n + length gs) path d f) (rule_from (suc n) gs path d) (file_rule n path d g)
+    ∙ ap (λ (k : ℕ). option_or (file_rule k path d f) (option_or (rule_from (suc n) gs path d) (file_rule n path d g))) same
 
 file_more : (files : List IgnoreFile) (f : IgnoreFile) (path : List ℕ) (is_folder : Bool)
-    → files_rule (files ++ f ∷ []) path is_folder ≡ or_else (file_rule (length files) path is_folder f) (files_rule files path is_folder)
+    → files_rule (files ++ f ∷ []) path is_folder ≡ option_or (file_rule (length files) path is_folder f) (files_rule files path is_folder)
 file_more files f path d =
     let same : 0 + length files ≡ length files = omega arith in
-    rule_from_more 0 files f path d ∙ ap (λ (k : ℕ). or_else (file_rule k path d f) (files_rule files path d)) same
+    rule_from_more 0 files f path d ∙ ap (λ (k : ℕ). option_or (file_rule k path d f) (files_rule files path d)) same
 
 -- the files up to an index, and the one there
 pub files_up_to : (files : List FolderRules) (i : ℕ) (f : FolderRules) (path : List ℕ) (is_folder : Bool) → i < length files → f ≡ get_or files i f
-    → files_rule (files_of (take (i + 1) files)) path is_folder ≡ or_else (file_rule i path is_folder (file_of f)) (files_rule (files_of (take i files)) path is_folder)
+    → files_rule (files_of (take (i + 1) files)) path is_folder ≡ option_or (file_rule i path is_folder (file_of f)) (files_rule (files_of (take i files)) path is_folder)
 files_up_to files i f path d h e =
     let count : length (files_of (take i files)) ≡ i = length-map (take i files) file_of ∙ omega (arith, h, length-take i files) in
     ap (λ (fs : List FolderRules). files_rule (files_of fs) path d) (take_more files i f h ∙ ap (λ (x : FolderRules). take i files ++ x ∷ []) (sym e))
     ∙ ap (λ (fs : List IgnoreFile). files_rule fs path d) (map-append file_of (take i files) (f ∷ []))
     ∙ file_more (files_of (take i files)) (file_of f) path d
-    ∙ ap (λ (k : ℕ). or_else (file_rule k path d (file_of f)) (files_rule (files_of (take i files)) path d)) count
+    ∙ ap (λ (k : ℕ). option_or (file_rule k path d (file_of f)) (files_rule (files_of (take i files)) path d)) count
 
 -- ---- a file of a folder says nothing of the folders above it
 
@@ -75,8 +76,8 @@ says_nothing : (files : List IgnoreFile) (f : IgnoreFile) (fs : List (List ℕ))
 says_nothing files f [] h = refl
 says_nothing files f (p ∷ fs) (h, hs) =
     let here : files_rule (files ++ f ∷ []) p true ≡ files_rule files p true =
-    file_more files f p true ∙ ap (λ (b : Bool). or_else (if b then deciding_rule f.ignore_case f.bytes (length files) (drop (length f.folder) p) true else None) (files_rule files p true)) (not_in f.folder p h) in
-    (λ i. or_else (ignoring (here i)) (says_nothing files f fs hs i))
+    file_more files f p true ∙ ap (λ (b : Bool). option_or (if b then deciding_rule f.ignore_case f.bytes (length files) (drop (length f.folder) p) true else None) (files_rule files p true)) (not_in f.folder p h) in
+    (λ i. option_or (ignoring (here i)) (says_nothing files f fs hs i))
 
 pub added_kept : (files : List IgnoreFile) (f : IgnoreFile) → ignored_above (files_rule (files ++ f ∷ [])) f.folder ≡ ignored_above (files_rule files) f.folder
 added_kept files f = says_nothing files f (folders_above f.folder) (shorter f.folder)
@@ -125,22 +126,22 @@ fit_still_there old scratch files all held = subst (λ (s : ScratchValue). FitAl
 
 last_of_files : (files : List FolderRules) (count : ℕ) (f : FolderRules) (path : List ℕ) (is_folder : Bool) (o : Option DecidingRule) → 0 < count → count ≤ length files
     → f ≡ get_or files (count - 1) f → o ≡ file_rule (count - 1) path is_folder (file_of f)
-    → files_rule (files_of (take count files)) path is_folder ≡ or_else o (files_rule (files_of (take (count - 1) files)) path is_folder)
+    → files_rule (files_of (take count files)) path is_folder ≡ option_or o (files_rule (files_of (take (count - 1) files)) path is_folder)
 last_of_files files count f path is_folder o low high at is =
     let same : count ≡ (count - 1) + 1 = omega (arith, low) in let within : count - 1 < length files = omega (arith, low, high) in
     ap (λ (k : ℕ). files_rule (files_of (take k files)) path is_folder) same ∙ files_up_to files (count - 1) f path is_folder within at
-    ∙ ap (λ (e : Option DecidingRule). or_else e (files_rule (files_of (take (count - 1) files)) path is_folder)) (sym is)
+    ∙ ap (λ (e : Option DecidingRule). option_or e (files_rule (files_of (take (count - 1) files)) path is_folder)) (sym is)
 
 -- a file decides
 pub file_decides : (files : List FolderRules) (count : ℕ) (f : FolderRules) (path : List ℕ) (is_folder : Bool) (o all : Option DecidingRule) → 0 < count → count ≤ length files
     → f ≡ get_or files (count - 1) f → o ≡ file_rule (count - 1) path is_folder (file_of f) → is_some o ≡ true
     → all ≡ files_rule (files_of (take count files)) path is_folder → o ≡ all
 file_decides files count f path is_folder o all low high at is some later =
-    sym (later ∙ last_of_files files count f path is_folder o low high at is ∙ or_else_some o (files_rule (files_of (take (count - 1) files)) path is_folder) some)
+    sym (later ∙ last_of_files files count f path is_folder o low high at is ∙ option_or_some o (files_rule (files_of (take (count - 1) files)) path is_folder) some)
 
 -- a file has no rule that decides
 pub file_undecided : (files : List FolderRules) (count : ℕ) (f : FolderRules) (path : List ℕ) (is_folder : Bool) (o all : Option DecidingRule) → 0 < count → count ≤ length files
     → f ≡ get_or files (count - 1) f → o ≡ file_rule (count - 1) path is_folder (file_of f) → o ≡ None
     → all ≡ files_rule (files_of (take count files)) path is_folder → all ≡ files_rule (files_of (take (count - 1) files)) path is_folder
 file_undecided files count f path is_folder o all low high at is none later =
-    later ∙ last_of_files files count f path is_folder o low high at is ∙ ap (λ (e : Option DecidingRule). or_else e (files_rule (files_of (take (count - 1) files)) path is_folder)) none
+    later ∙ last_of_files files count f path is_folder o low high at is ∙ ap (λ (e : Option DecidingRule). option_or e (files_rule (files_of (take (count - 1) files)) path is_folder)) none

@@ -1,6 +1,7 @@
 -- What rules tell about a path in one pass. No contract of the crate's public calls cites this.
 use Rattle.std.specs.Prelude.{◌≡◌, ℕ, Bool, true, false, ◌||◌, List, ◌∷◌, ◌++◌, Option, None}
-use Rattle.git_ignore.specs.TwoRules.{ignoring, or_else}
+use Rattle.std.specs.Option.{option_or}
+use Rattle.git_ignore.specs.TwoRules.{ignoring}
 use Rattle.git_ignore.specs.declared.decision.DecidingRule.{DecidingRule}
 use Rattle.git_ignore.specs.declared.path_rule.PathRule.{PathRule}
 
@@ -22,7 +23,7 @@ without_rule = record { rule = None; may_be_ignored = false; may_be_kept = false
 -- what rules and later ones tell together; the later ones take precedence
 abbrev pub joined : PathRule → PathRule → PathRule
 joined first later = record {
-  rule = or_else later.rule first.rule;
+  rule = option_or later.rule first.rule;
   may_be_ignored = first.may_be_ignored || later.may_be_ignored;
   may_be_kept = first.may_be_kept || later.may_be_kept;
 }

@@ -1,19 +1,21 @@
 use Rattle.std.proofs.Common.{◌≡◌, ◌+◌, ◌-◌, take, true, ap, sym, ◌∙◌, arith}
+use Rattle.std.proofs.lemmas.Bool.{false≢true}
 use Rattle.std.proofs.Math.Seq.{take-length}
 use Rattle.git_ignore.proofs.lemmas.PathRules.{none_last}
 use Rattle.git_ignore.proofs.lemmas.TwoRules.{folder_decides, folder_undecided, nearest_above, nearest_itself, none_if_not_some, rule_above}
 use Rattle.git_ignore.proofs.two_rules.nearest.Goals as goal
+use Rattle.git_ignore.proofs.two_rules.nearest.Goals.{else-told, then-told}
 
 pub returns-then-is_some-clause-rule : goal.returns-then-is_some-clause-rule
 returns-then-is_some-clause-rule g c =
     nearest_itself (g.R.DecidesAlone.alone c.args.rules.now) c.args.path.now c.args.is_folder _ c.path_rule-told.ensures.rule.rule
     (sym c.is_some.ensures ∙ c.if-is_some.true)
 
-pub returns-then-not-may_be_decided-clause-rule : goal.returns-then-not-may_be_decided-clause-rule
-returns-then-not-may_be_decided-clause-rule g c =
+pub returns-then-not-told-clause-rule : goal.returns-then-not-told-clause-rule
+returns-then-not-told-clause-rule g c =
     let alone = g.R.DecidesAlone.alone c.args.rules.now in
     let told = c.path_rule-told.ensures.rule in
-    sym (none_last (λ folder. alone folder true) c.args.path.now (told.undecided (sym c.may_be_decided.ensures ∙ c.if-not-may_be_decided.true)))
+    sym (none_last (λ folder. alone folder true) c.args.path.now (told.undecided (elim c.if-told.branch [ then-told w ↦ absurd (false≢true (sym c.if-not-told.true ∙ w.value-is ∙ w.if-told.true)) | else-told w ↦ rw w.if-told.false (sym w.value-is ∙ c.if-not-told.true) ])))
     ∙ nearest_above alone c.args.path.now c.args.is_folder _ told.rule (none_if_not_some c.path_rule-told.result.rule (sym c.is_some.ensures ∙ c.if-is_some.false))
 
 pub loop-end-init : goal.loop-end-init

@@ -1,9 +1,11 @@
-use Rattle.std.proofs.Common.{ℕ, arith}
+use Rattle.std.proofs.Common.{List, ℕ, ap, arith, subst, ◌∙◌}
 use Rattle.std.proofs.lemmas.Grind.{common_steps}
 use Rattle.std.proofs.lemmas.List.{length-drop, length-take, take_all}
-use Rattle.std.proofs.lemmas.Result.{on_ok_weaker}
+use Rattle.ignore_pattern.specs.Lines.{lines_of}
+use Rattle.git_ignore.specs.Rules.{rules_from, rules_of, unread_from, unread_lines_of}
+use Rattle.git_ignore.specs.inner.Entries.{ArePartsOf}
 use Rattle.git_ignore.proofs.lemmas.Lines.{last_read, last_unread, next_read, next_unread}
-use Rattle.git_ignore.proofs.reading.FileRules.push_lines.Goals as goal
+use Rattle.git_ignore.proofs.reading.FileRules.read.Goals as goal
 
 pub loop-end-preserved : goal.loop-end-preserved
 loop-end-preserved c = record {
@@ -13,7 +15,13 @@ loop-end-preserved c = record {
 }
 
 pub returns-clause-rules : goal.returns-clause-rules
-returns-clause-rules c = on_ok_weaker c.push_line-2.result (last_read _ _ _ _ _ c.loop-end.number c.loop-end.rest.now c.loop-end.invariant.rules c.in_default.ensures) c.push_line-2.ensures.rules
+unfolding rules_of
+returns-clause-rules c =
+    subst (λ (bytes : List ℕ). ArePartsOf (rules_from 1 (lines_of bytes)) c.push_line-2.new.self.patterns.items c.push_line-2.new.self.entries.items) c.after_mark-rest.ensures
+    (last_read _ _ _ _ _ c.loop-end.number c.loop-end.rest.now c.loop-end.invariant.rules c.in_default.ensures c.in_ok-push_line-2.ensures.rules)
 
 pub returns-clause-unread : goal.returns-clause-unread
-returns-clause-unread c = on_ok_weaker c.push_line-2.result (last_unread _ _ _ c.loop-end.number c.loop-end.rest.now c.loop-end.invariant.unread c.in_default.ensures) c.push_line-2.ensures.unread
+unfolding unread_lines_of
+returns-clause-unread c =
+    last_unread _ _ _ c.loop-end.number c.loop-end.rest.now c.loop-end.invariant.unread c.in_default.ensures c.in_ok-push_line-2.ensures.unread
+    ∙ ap (λ (bytes : List ℕ). unread_from 1 (lines_of bytes)) c.after_mark-rest.ensures
