@@ -57,38 +57,15 @@ impl FileRules {
             (self.new.unread.items
             ≡ self.old.unread.items ++ unread_at number (is_unread line.now)) }
     {
-        match pattern_of_line(alloc, line)? {
-            Some(pattern) => self.push_rule(number, pattern),
-            None => self.push_unread(number, line),
-        }
-    }
-
-    /// Adds a rule.
-    fn push_rule(&mut self, line: usize, pattern: IgnorePattern) -> Result<(), AllocError>
-        ensures pattern { OnOk result
-            (self.new.patterns.items ≡ self.old.patterns.items ++ pattern ∷ []) }
-        ensures entry { OnOk result
-            (self.new.entries.items
-            ≡ self.old.entries.items
-            ++ entry_of (record { line = line; pattern = pattern }) ∷ []) }
-        ensures unread { self.new.unread.items ≡ self.old.unread.items }
-    {
-        self.entries.push(RuleEntry::new(line, &pattern))?;
-        self.patterns.push(pattern)?;
-        Ok(())
-    }
-
-    /// Adds the number of a line from which no pattern is read, if its text has one.
-    fn push_unread(&mut self, number: usize, line: &[u8]) -> Result<(), AllocError>
-        ensures patterns { self.new.patterns.items ≡ self.old.patterns.items }
-        ensures entries { self.new.entries.items ≡ self.old.entries.items }
-        ensures unread { OnOk result
-            (self.new.unread.items
-            ≡ self.old.unread.items ++ unread_at number (not (lacks_pattern (line_text line.now)))) }
-    {
-        if !lacks_pattern(line_text(line)) {
+        let Some(pattern) = pattern_of_line(alloc, line)? else {
+            if lacks_pattern(line_text(line)) {
+                return Ok(());
+            }
             self.unread.push(number)?;
-        }
+            return Ok(());
+        };
+        self.entries.push(RuleEntry::new(number, &pattern))?;
+        self.patterns.push(pattern)?;
         Ok(())
     }
 }
@@ -118,20 +95,12 @@ pub fn rule_patterns(alloc: Global, file: &[u8]) -> Result<RulePatterns, AllocEr
     ensures lines { IfOk result (λ read. read.lines.items ≡ lines_of_rules (rules_of file.now)) }
 {
     let read = FileRules::read(alloc, file)?;
-    let lines = lines_of(alloc, &read.entries)?;
-    let patterns = read.patterns;
-    Ok(RulePatterns { patterns, lines })
-}
-
-/// Returns the number of the line of each entry.
-fn lines_of(alloc: Global, entries: &[RuleEntry]) -> Result<Vec<usize>, AllocError>
-    ensures { IfOk result (λ lines. lines.items ≡ map (λ e. e.line) entries.now) }
-{
     let mut lines = Vec::new(alloc);
-    for entry in entries {
+    for entry in &read.entries {
         lines.push(entry.line)?;
     }
-    Ok(lines)
+    let patterns = read.patterns;
+    Ok(RulePatterns { patterns, lines })
 }
 
 /// Returns the bytes of a file without a byte order mark at their start.

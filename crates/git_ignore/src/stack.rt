@@ -312,30 +312,12 @@ impl IgnoreStack {
             files: self.files.len(),
             ignored_by: self.ignored_by,
         };
-        push_name(&mut self.folder, name)?;
-        match self.levels.push(level) {
-            Ok(()) => {
-                self.ignored_by = ignored_by;
-                Ok(())
-            }
-            Err(_) => {
-                self.folder.truncate(level.folder);
-                Err(AllocError)
-            }
-        }
+        self.levels.reserve(1)?;
+        self.folder.reserve(name.len() + 1)?;
+        self.folder.extend_from_slice(name)?;
+        self.folder.push_reserved(b'/');
+        self.levels.push_reserved(level);
+        self.ignored_by = ignored_by;
+        Ok(())
     }
-}
-
-/// Adds the name of a folder to a path, and `/`. After an error the path is unchanged.
-fn push_name(path: &mut Vec<u8>, name: &[u8]) -> Result<(), AllocError>
-    ensures added { OnOk result (path.new.items ≡ path.old.items ++ name.now ++ 47 ∷ []) }
-    ensures kept { OnErr result (path.new.items ≡ path.old.items) }
-{
-    let len = path.len();
-    path.extend_from_slice(name)?;
-    if path.push(b'/').is_err() {
-        path.truncate(len);
-        return Err(AllocError);
-    }
-    Ok(())
 }
