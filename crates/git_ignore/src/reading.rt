@@ -1,12 +1,12 @@
 //! Rules as they are read, line by line.
 
-ghost use Rattle.std.specs.Prelude.{◌≡◌, ◌==◌, ◌++◌, ◌∷◌, [], IfOk, OnOk, map, not};
+ghost use Rattle.std.specs.Prelude.{◌≡◌, ◌==◌, ◌++◌, IfOk, OnOk};
 ghost use Rattle.std.specs.List.{list_all};
 ghost use Rattle.std.specs.Option.{option_copied};
-ghost use Rattle.ignore_pattern.specs.Lines.{line_text, lines_of, without_byte_order_mark};
+ghost use Rattle.ignore_pattern.specs.Lines.{lines_of, without_byte_order_mark};
 ghost use Rattle.ignore_pattern.specs.Patterns.{pattern_of_line};
 ghost use Rattle.git_ignore.specs.Rules.{is_unread, lacks_pattern, line_at, lines_of_rules, patterns_of, rules_of, unread_lines_of};
-ghost use Rattle.git_ignore.specs.inner.Entries.{AddsRules, ArePartsOf, entry_of, rule_at, unread_at};
+ghost use Rattle.git_ignore.specs.inner.Entries.{AddsRules, ArePartsOf, rule_at, unread_at};
 
 use crate::entry::RuleEntry;
 use ignore_pattern::{IgnorePattern, line_text, pattern_of_line};

@@ -1,6 +1,6 @@
 //! Ignore files of nested folders.
 
-ghost use Rattle.std.specs.Prelude.{◌≡◌, ◌++◌, ◌∷◌, [], true, false, None, Some, IfOk, MatchOption, OnOk, OnErr, is_some, take};
+ghost use Rattle.std.specs.Prelude.{◌≡◌, true, false, None, Some, IfOk, MatchOption, OnOk, OnErr, is_some};
 ghost use Rattle.std.specs.Option.{option_and_then, option_copied, option_map};
 ghost use Rattle.git_ignore.specs.Rules.{decision_of, line_text_at, unread_lines_of};
 ghost use Rattle.git_ignore.specs.Folders.{files_rule};

@@ -166,14 +166,6 @@ next_searched is_found f es from at before after low found none is chose =
 
 -- ---- facts after a call
 
-pub on_ok : {X E P : Type 0} (r : Result X E) → P → OnOk r P
-on_ok (Ok x) p = p
-on_ok (Err e) p = tt
-
-pub on_ok_both : {X E P Q R : Type 0} (r : Result X E) → (P → Q → R) → OnOk r P → OnOk r Q → OnOk r R
-on_ok_both (Ok x) f p q = f p q
-on_ok_both (Err e) f p q = tt
-
 pub from_ok : {X E P : Type 0} (r : Result X E) → IsOk r → OnOk r P → P
 from_ok (Ok x) ok h = h
 from_ok (Err e) ok h = absurd (false≢true ok)
