@@ -92,10 +92,13 @@ pub(crate) fn find(
     key: &[u8],
     compared: &mut Visits,
 ) -> Option<Row>
+    // Each row keeps its key's hash, the rows are in order, and the ends and the directory are theirs.
     requires hashed { All (IsHashed bytes.now) rows.now }
     requires sorted { IsSortedBy (row_below bytes.now) rows.now }
     requires ends { HasEnds bytes.now rows.now ends.now }
     requires starts { HasStarts rows.now directory.now.shift directory.now.starts.items }
+
+    // The result is a row with the key, or no row has the key. The comparisons are bounded.
     ensures row { MatchOption result (HasNoRow bytes.now rows.now key.now)
         (λ r. Contains rows.now r × (row_key bytes.now r ≡ key.now)) }
     ensures compared { (k : ℕ) → length rows.now < 2 ^ k → compared.new ≤ compared.old + max 8 k }
@@ -133,9 +136,12 @@ fn scan(bytes: &[u8], rows: &[Row], key: &[u8], compared: &mut Visits) -> Option
 
 /// Finds the row with a key and its hash among sorted rows by halves.
 fn search(bytes: &[u8], rows: &[Row], hash: u32, key: &[u8], compared: &mut Visits) -> Option<Row>
+    // `hash` is the key's hash, each row keeps its key's hash, and the rows are in order.
     requires hash { hash ≡ hash_of key.now }
     requires hashed { All (IsHashed bytes.now) rows.now }
     requires sorted { IsSortedBy (row_below bytes.now) rows.now }
+
+    // The result is a row with the key, or no row has the key. The comparisons are bounded.
     ensures row { MatchOption result (HasNoRow bytes.now rows.now key.now)
         (λ r. Contains rows.now r × (row_key bytes.now r ≡ key.now)) }
     ensures compared { (k : ℕ) → length rows.now < 2 ^ k → compared.new ≤ compared.old + k }

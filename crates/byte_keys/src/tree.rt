@@ -57,8 +57,11 @@ pub struct Reading<'t> {
 impl Tree {
     /// Reads a node: its indexes, and the child that the next byte leads to. It is a visit.
     pub fn read(&self, node: usize, next: Option<u8>, visits: &mut Visits) -> Reading<'_>
+        // The node is one of the tree.
         requires tree { IsTree self.now }
         requires node { node < node_count self.now }
+
+        // The reading has the node's indexes and its child by the next byte, which is a node of the tree too. It is one visit.
         ensures indexes { result.indexes.now ≡ held_at self.now node }
         ensures child { result.child ≡ option_and_then (child_at self.now node) next }
         ensures below { IfSome result.child (λ c. c < node_count self.now) }
@@ -206,10 +209,15 @@ fn push_edges(
 
 /// Returns how far texts go on with a byte, or end, from the first of them on.
 fn end_of_run(texts: &[Text], span: Span, depth: usize, next: Option<u8>) -> usize
+    // The span lies within the texts.
     requires from { span.from ≤ span.to }
     requires to { span.to ≤ length texts.now }
+
+    // The result lies in the span or at its end.
     ensures low { span.from ≤ result }
     ensures high { result ≤ span.to }
+
+    // Each text of the span before the result goes on as `next` says. A text of the span at the result does not.
     ensures run { AllWithin (λ t. next_of depth t ≡ next) texts.now span.from result }
     ensures stop { result < span.to → HoldsAt (λ t. next_of depth t ≢ next) texts.now result }
 {

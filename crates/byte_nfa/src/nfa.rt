@@ -298,11 +298,16 @@ impl Nfa {
     /// Returns whether some bytes lead from the states of a set to an end. `live` has all such states. It reads each state of the
     /// set at most once, which is a visit.
     pub fn has_live(&self, from: &StateSet, live: &StateSet, visits: &mut Visits) -> bool
+        // Both sets have room for each state.
         requires from_capacity { size self.now ≤ state_capacity from.now }
         requires live_capacity { size self.now ≤ state_capacity live.now }
+
+        // `live` has exactly the states that can lead to an end, and the result says whether `from` has such a state.
         requires live { AreLive self.now live.now }
         ensures some { IsTrue result
             ↔ ((y : List ℕ) × (k : ℕ) × AllBytes y × AcceptsFrom self.now from.now y k) }
+
+        // The visits are bounded.
         ensures visits { visits.new ≤ visits.old + size self.now }
         ensures counted { visits.old ≤ visits.new }
     {
@@ -363,9 +368,13 @@ impl Nfa {
     /// Takes the steps of a state of `from` at the end of a text: puts the states that it leads to without a byte into `from`.
     /// Returns its index if it is an end.
     pub fn follow_epsilons(&self, s: usize, from: &mut StateSet) -> Option<usize>
+        // The state exists. The set has room for each state, and keeps that room.
         requires exists { s < size self.now }
         requires room { size self.now ≤ state_capacity from.old }
         ensures room { state_capacity from.new ≡ state_capacity from.old }
+
+        // The set gets the states that this state leads to without a byte. The state leads only to lower states.
+        // The result is the index of an end, or the state is no end.
         ensures from { (t : ℕ)
             → has_state from.new t
             ≡ (goes_now (state self.now.states s) t || has_state from.old t) }

@@ -58,9 +58,13 @@ pub fn start_state(
     automaton: &Nfa,
     builder: &mut Builder,
 ) -> Result<Option<usize>, AllocError>
+    // The builder begins without states and starts, for the automaton's indexes.
     requires states { builder.old.states ≡ [] }
     requires starts { builder.old.starts ≡ [] }
     requires index_count { builder.old.index_count ≡ automaton.now.index_count }
+
+    // A returned state stands for the automaton's starts. Then the builder has at most as many states as the automaton,
+    // still no starts, and the same indexes.
     ensures state { IfOk result
         (λ made. IfSome made (λ u. IsStateFor automaton.now builder.new automaton.now.starts u)) }
     ensures states { IfOk result

@@ -134,14 +134,21 @@ impl Compiled {
         found: &mut IndexSet,
         visits: &mut Visits,
     ) -> Result<(), AllocError>
+        // The set has room for each index, a given cache is for this automaton, and both stay so.
         requires count { self.now.index_count ≤ index_capacity found.old }
         requires cache { IfSome cache.old (λ c. c ≡ self.now) }
         ensures cache { cache.new ≡ cache.old }
         ensures room { index_capacity found.new ≡ index_capacity found.old }
+
+        // Success adds the index of each end that the text leads to. These are the indexes of the tokens that match it.
         ensures reached { OnOk result (AddsReached self.now text.now found.old found.new) }
         ensures found { OnOk result (AddsMatches self.now text.now found.old found.new) }
+
+        // The capacity of the sets of states is never lower than before. With room for each state the call succeeds.
         ensures kept { sets_capacity sets.old ≤ sets_capacity sets.new }
         ensures memory { size self.now ≤ sets_capacity sets.old → IsOk result }
+
+        // The visits are bounded.
         ensures visits { visits.new ≤ visits.old + (length text.now + 1) * max_reads self.now }
         ensures counted { visits.old ≤ visits.new }
     {
@@ -170,11 +177,16 @@ impl Compiled {
         cache: &mut Option<Cache>,
         visits: &mut Visits,
     ) -> Result<bool, AllocError>
+        // A given cache is for this automaton, and stays so. The result says whether tokens match the text.
         requires { IfSome cache.old (λ c. c ≡ self.now) }
         ensures cache { cache.new ≡ cache.old }
         ensures some { IfOk result (λ yes. TellsMatch self.now text.now yes) }
+
+        // The capacity of the sets of states is never lower than before. With room for each state the call succeeds.
         ensures kept { sets_capacity sets.old ≤ sets_capacity sets.new }
         ensures memory { size self.now ≤ sets_capacity sets.old → IsOk result }
+
+        // The visits are bounded.
         ensures visits { visits.new ≤ visits.old + (length text.now + 1) * max_reads self.now }
         ensures counted { visits.old ≤ visits.new }
     {
@@ -204,13 +216,18 @@ impl Compiled {
         cache: &mut Option<Cache>,
         visits: &mut Visits,
     ) -> Result<bool, AllocError>
+        // A given cache is for this automaton, and stays so. The result says whether tokens match some text that begins so.
         requires { IfSome cache.old (λ c. c ≡ self.now) }
         ensures cache { cache.new ≡ cache.old }
         ensures some { IfOk result
             (λ yes. (xs : List IndexedTokens) → IsFor self.now xs
             → IsTrue yes ↔ SomeMeanAfter xs (text.now ++ byte ∷ [])) }
+
+        // The capacity of the sets of states is never lower than before. With room for each state the call succeeds.
         ensures kept { sets_capacity sets.old ≤ sets_capacity sets.new }
         ensures memory { size self.now ≤ sets_capacity sets.old → IsOk result }
+
+        // The visits are bounded.
         ensures visits { visits.new ≤ visits.old + (length text.now + 2) * max_reads self.now }
         ensures counted { visits.old ≤ visits.new }
     {

@@ -152,10 +152,15 @@ impl RowSource {
         found: &mut IndexSet,
         visits: &mut Visits,
     ) -> bool
+        // The set has room for each index, and keeps that room.
         requires { self.now.index_count ≤ index_capacity found.old }
         ensures room { index_capacity found.new ≡ index_capacity found.old }
+
+        // The set keeps its indexes, and gets only indexes of ends that the text leads to. After `true` it has them all.
         ensures found { IsTrue result → AddsReached self.now text.now found.old found.new }
         ensures some { AddsSome self.now text.now found.old found.new }
+
+        // The visits are bounded. After `false` the bound is lower.
         ensures missed { result ≡ false → visits.new ≤ visits.old + (length text.now + 1) }
         ensures visits { visits.new
             ≤ visits.old + (length text.now + 1) + (length text.now + 1) * (size self.now + 1) }

@@ -139,11 +139,16 @@ impl Scratch {
     /// assert!(rt; tests.is_match_with(&path, &mut scratch, &mut visits));
     /// ```
     pub fn fit<S: NeedsScratch>(&mut self, set: &S) -> Result<(), Error>
+        // Success raises each number to the need, if it is lower, and then the scratch fits.
         ensures raised { OnOk result
             (self.new ≡ raised self.old (S.states set.now) (S.indexes set.now)) }
         ensures fits { OnOk result (HasCapacity self.new (S.states set.now) (S.indexes set.now)) }
+
+        // An error changes nothing. In both cases the scratch fits what it fitted before.
         ensures kept { OnErr result (self.new ≡ self.old) }
         ensures others { FitsAsBefore self.old self.new }
+
+        // The call fails only if memory runs out, and never if the scratch fits already.
         ensures succeeds_if_fits { HasCapacity self.old (S.states set.now) (S.indexes set.now)
             → IsOk result }
         ensures err { IsOkUnless result out_of_memory }

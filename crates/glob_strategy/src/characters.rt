@@ -63,11 +63,14 @@ struct FirstBytes {
 
 /// Adds the states that read the last byte of a character, the last two and the last three, where these may be any.
 fn add_last_bytes(builder: &mut Builder, exit: usize) -> Result<LastBytes, AllocError>
+    // The exit exists. On success the returned states exist, and three states were added.
     requires { exit < size builder.old }
     ensures within { IfOk result
         (λ r. (r.one < size builder.new) × (r.two < size builder.new)
         × (r.three < size builder.new)) }
     ensures count { OnOk result (size builder.new ≡ size builder.old + 3) }
+
+    // Nothing but states is added. From the returned states, one, two and three last bytes of a character lead to the exit.
     ensures grows { Grows builder.old builder.new }
     ensures one { IfOk result
         (λ r. BuildsRow (continues ∷ []) builder.old.states builder.new.states r.one exit) }
@@ -107,12 +110,17 @@ fn add_first_two(
 /// Adds the states of the first bytes of characters of three bytes. `one` and `two` are the states of the last byte and of the
 /// last two.
 fn add_three_bytes(builder: &mut Builder, one: usize, two: usize) -> Result<FirstBytes, AllocError>
+    // The states of the last bytes exist.
     requires one { one < size builder.old }
     requires two { two < size builder.old }
+
+    // On success the returned states exist, and five states were added.
     ensures within { IfOk result
         (λ r. (r.low < size builder.new) × (r.middle < size builder.new)
         × (r.high < size builder.new)) }
     ensures count { OnOk result (size builder.new ≡ size builder.old + 5) }
+
+    // Nothing but states is added. A first byte with second bytes of its own leads by these to `one`, and the others to `two`.
     ensures grows { Grows builder.old builder.new }
     ensures low { IfOk result
         (λ r. BuildsRow (is_between (0xE0, 0xE0) ∷ is_between (0xA0, 0xBF) ∷ []) builder.old.states
@@ -132,12 +140,17 @@ fn add_three_bytes(builder: &mut Builder, one: usize, two: usize) -> Result<Firs
 /// Adds the states of the first bytes of characters of four bytes. `two` and `three` are the states of the last two bytes and
 /// of the last three.
 fn add_four_bytes(builder: &mut Builder, two: usize, three: usize) -> Result<FirstBytes, AllocError>
+    // The states of the last bytes exist.
     requires two { two < size builder.old }
     requires three { three < size builder.old }
+
+    // On success the returned states exist, and five states were added.
     ensures within { IfOk result
         (λ r. (r.low < size builder.new) × (r.middle < size builder.new)
         × (r.high < size builder.new)) }
     ensures count { OnOk result (size builder.new ≡ size builder.old + 5) }
+
+    // Nothing but states is added. A first byte with second bytes of its own leads by these to `two`, and the others to `three`.
     ensures grows { Grows builder.old builder.new }
     ensures low { IfOk result
         (λ r. BuildsRow (is_between (0xF0, 0xF0) ∷ is_between (0x90, 0xBF) ∷ []) builder.old.states

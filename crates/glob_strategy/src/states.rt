@@ -111,11 +111,16 @@ fn add_token(
     token: &Token,
     exit: usize,
 ) -> Result<usize, AllocError>
+    // The token is no brace or comma, and the exit exists.
     requires simple { IsSimple (flat_of token.now) }
     requires exit { exit < size builder.old }
+
+    // On success the returned state exists, and the number of added states is at most the token's weight.
     ensures within { IfOk result (λ s. s < size builder.new) }
     ensures count { OnOk result
         (size builder.new ≤ size builder.old + flat_weight options (flat_of token.now)) }
+
+    // Nothing but states is added. From the returned state on they are the states of the token, and lead to the exit.
     ensures grows { Grows builder.old builder.new }
     ensures builds { IfOk result
         (λ s. BuildsFlat options (flat_of token.now) builder.old.states builder.new.states s exit) }
@@ -239,11 +244,16 @@ fn add_sequence(
     tokens: &[Token],
     exit: usize,
 ) -> Result<usize, AllocError>
+    // Each group of the tokens is closed, each comma is in a group, and the exit exists.
     requires nested { IsNested (flats tokens.now) }
     requires exit { exit < size builder.old }
+
+    // On success the returned state exists, and the number of added states is at most the tokens' weight.
     ensures within { IfOk result (λ s. s < size builder.new) }
     ensures count { OnOk result
         (size builder.new ≤ size builder.old + weight options (tokens_of tokens.now)) }
+
+    // Nothing but states is added. From the returned state on they are the states of the tokens, and lead to the exit.
     ensures grows { Grows builder.old builder.new }
     ensures builds { IfOk result
         (λ s. Builds options (tokens_of tokens.now) builder.old.states builder.new.states s exit) }
@@ -299,11 +309,16 @@ fn add_whole(
     tokens: &[Token],
     index: usize,
 ) -> Result<usize, AllocError>
+    // Each group of the tokens is closed, each comma is in a group, and the index is below the builder's `index_count`.
     requires nested { IsNested (flats tokens.now) }
     requires index { index < builder.old.index_count }
+
+    // On success the returned state exists, and the number of added states is at most the tokens' weight and 1.
     ensures within { IfOk result (λ s. s < size builder.new) }
     ensures count { OnOk result
         (size builder.new ≤ size builder.old + (weight options (tokens_of tokens.now) + 1)) }
+
+    // Nothing but states is added. From the returned state they accept the paths that the tokens match, for the index alone.
     ensures grows { Grows builder.old builder.new }
     ensures builds { IfOk result
         (λ s. BuildsWhole options (tokens_of tokens.now) index builder.old.states builder.new.states
@@ -331,13 +346,18 @@ pub fn add_tokens(
     tokens: &[Token],
     index: usize,
 ) -> Result<(), AllocError>
+    // Each group of the tokens is closed, each comma is in a group, and the index is below the builder's `index_count`.
     requires nested { IsNested (flats tokens.now) }
     requires index { index < builder.old.index_count }
+
+    // Success adds the tokens to those that the automaton is for. After an error it is for the same tokens as before.
     ensures tokens { OnOk result
         ((xs : List IndexedTokens) → IsFor builder.old xs
         → IsFor builder.new (xs ++ indexed options (tokens_of tokens.now) index ∷ [])) }
     ensures kept { OnErr result
         ((xs : List IndexedTokens) → IsFor builder.old xs → IsFor builder.new xs) }
+
+    // The number of indexes stays. On success the states grow by at most the tokens' weight and 1, and the most reads by 3 more.
     ensures index_count { builder.new.index_count ≡ builder.old.index_count }
     ensures size { OnOk result
         (size builder.new ≤ size builder.old + (weight options (tokens_of tokens.now) + 1)) }

@@ -121,11 +121,16 @@ fn class_at<'a>(
     negated: bool,
     rest: &'a [char],
 ) -> (Lexeme<'a>, usize)
+    // At most one character negates the class. If `closable` is false, no `]` closes the class.
     requires skips { skipped ≤ 1 }
     requires known { IsFalse closable.old → NoCloser (drop 1 rest.now) }
+
+    // Afterwards `closable` is false exactly if no `]` closes the class. It never becomes true again.
     ensures known { IsFalse closable.new → NoCloser (drop 1 rest.now) }
     ensures remembered { members rest.now ≡ None → IsFalse closable.new }
     ensures kept { IsFalse closable.old → IsFalse closable.new }
+
+    // The lexeme is that of the definition `class_at`, and it ends within the text.
     ensures value { (lexeme_of result.0, result.1) ≡ class_at options skipped negated rest.now }
     ensures within { result.1 ≤ skipped + length rest.now }
 {
