@@ -16,9 +16,12 @@ use std::alloc::{AllocError, Global};
 
 /// Puts the states that a byte leads to from the states of a list into a set. The sets' old contents have no effect.
 pub fn step(automaton: &Nfa, states: &[usize], byte: u8, from: &mut StateSet, to: &mut StateSet)
+    // The list has only states of the automaton, and both sets have room for all of these.
     requires below { AreBelow (size automaton.now) states.now }
     requires from_capacity { size automaton.now ≤ state_capacity from.old }
     requires to_capacity { size automaton.now ≤ state_capacity to.old }
+
+    // Both sets keep their room. From `to`, a text leads to the ends that the byte and the text lead to from the list.
     ensures from_capacity { state_capacity from.new ≡ state_capacity from.old }
     ensures to_capacity { state_capacity to.new ≡ state_capacity to.old }
     ensures steps { (y : List ℕ) (k : ℕ)
@@ -68,11 +71,16 @@ pub fn step_set(automaton: &Nfa, byte: u8, from: &mut StateSet, to: &mut StateSe
 /// Takes the steps of a state of `from`: puts into `from` what it goes on to without a byte, and into `to` what it goes on to by
 /// the byte.
 fn take(automaton: &Nfa, s: usize, byte: u8, from: &mut StateSet, to: &mut StateSet)
+    // The automaton has the state, and both sets have room for all of its states.
     requires exists { s < size automaton.now }
     requires from_capacity { size automaton.now ≤ state_capacity from.old }
     requires to_capacity { size automaton.now ≤ state_capacity to.old }
+
+    // Both sets keep their room.
     ensures from_capacity { state_capacity from.new ≡ state_capacity from.old }
     ensures to_capacity { state_capacity to.new ≡ state_capacity to.old }
+
+    // What the state goes on to without a byte is below it. This is added to `from`, and what it goes on to by the byte to `to`.
     ensures below { GoesBelow s (state automaton.now.states s) }
     ensures from { (t : ℕ)
         → has_state from.new t
@@ -96,9 +104,12 @@ pub fn is_wanted(
     from: &mut StateSet,
     ends: &mut IndexSet,
 ) -> bool
+    // The list has only states of the automaton. `from` has room for all of these, and `ends` for all indexes.
     requires below { AreBelow (size automaton.now) states.now }
     requires from_capacity { size automaton.now ≤ state_capacity from.old }
     requires ends_capacity { automaton.now.index_count ≤ index_capacity ends.old }
+
+    // Both sets keep their room, and the answer is right.
     ensures from_capacity { state_capacity from.new ≡ state_capacity from.old }
     ensures ends_capacity { index_capacity ends.new ≡ index_capacity ends.old }
     ensures wanted { IsTrue result
@@ -110,9 +121,12 @@ pub fn is_wanted(
 
 /// Makes a set hold the ends that the states of a list lead to without a byte, and no others.
 pub fn ends_of(automaton: &Nfa, states: &[usize], from: &mut StateSet, ends: &mut IndexSet)
+    // The list has only states of the automaton. `from` has room for all of these, and `ends` for all indexes.
     requires below { AreBelow (size automaton.now) states.now }
     requires from_capacity { size automaton.now ≤ state_capacity from.old }
     requires ends_capacity { automaton.now.index_count ≤ index_capacity ends.old }
+
+    // Both sets keep their room. `ends` has exactly the ends that the list leads to without a byte.
     ensures from_capacity { state_capacity from.new ≡ state_capacity from.old }
     ensures ends_capacity { index_capacity ends.new ≡ index_capacity ends.old }
     ensures ends { (k : ℕ)

@@ -75,11 +75,15 @@ impl Rows {
 
     /// Returns the bytes that led from the first row to a row.
     pub fn path_to(&self, alloc: Global, number: usize) -> Result<Vec<u8>, AllocError>
+        // There is a row of this number. Each row has an origin, and that of each but the first names an earlier row and a byte.
         requires number { number < length self.now.seen.keys }
         requires origins { length self.now.origins.items ≡ length self.now.seen.keys }
         requires rows { (i : ℕ) (origin : Origin) → 0 < i
             → slice_get self.now.origins.items i ≡ Some origin
             → (origin.row < i) × (origin.byte < 256) }
+
+        // In the rows of a search, the path is wanted if the row is. It consists of bytes, as many as led from the first row to
+        // this one.
         ensures path { IfOk result
             (λ path. (m : NfaValue) (n : Question) (domain : Domain) (row : Row)
             → AreRows m n domain self.now → HasRow self.now number row → WantsRow m n row []

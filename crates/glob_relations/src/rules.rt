@@ -148,9 +148,13 @@ fn decide_by_git(
     domain: Domain,
     limit: usize,
 ) -> Result<RuleReachability, AllocError>
+    // The automaton finds which rules match a path. The question requires one index, and tells for each rule whether it ignores
+    // folders.
     requires finds { FindsEach (pattern_matches ignore_case) patterns.now automaton.now }
     requires required { question.now.required ≡ 1 }
     requires ignores { question.now.ignores.items ≡ ignores_of patterns.now }
+
+    // The others are the rivals of the rule, and the path is a shortest one about which it decides alone. The answer is right.
     requires others { (k : ℕ) → Contains others.now k ↔ IsRival patterns.now i pattern.now k }
     requires path { IsShortest (IsDecidedAlone ignore_case patterns.now i pattern.now domain)
         path.items }

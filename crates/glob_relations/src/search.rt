@@ -234,16 +234,25 @@ fn expand(
     number: usize,
     memory: &mut Memory,
 ) -> Result<(), AllocError>
+    // The memory has room for the automaton. The row is one of those of a search so far, none of which came from a row after it.
     requires room { HasRoom automaton.now memory.old }
     requires rows { AreRows automaton.now question.now domain rows.old }
     requires number { number < length rows.old.seen.keys }
     requires before { CameBefore rows.old (number + 1) }
+
+    // A wanted path leads to an end of the index 0, and `leading` marks each state from which a text may lead there. Each byte is
+    // read like one of `bytes`.
     requires required { 0 < question.now.required }
     requires leading { AreLeading automaton.now 0 leading.now }
     requires bytes { AreRepresentatives automaton.now bytes.now }
+
+    // After success the rows are as required above, and the memory is in any case.
     ensures room { HasRoom automaton.now memory.new }
     ensures rows { OnOk result (AreRows automaton.now question.now domain rows.new) }
     ensures before { OnOk result (CameBefore rows.new (number + 1)) }
+
+    // After success each row is still there. A text that is wanted from this row is wanted, without its first byte, from the
+    // first row, or from one that came from this row or an earlier one.
     ensures kept { OnOk result (KeepsRows rows.old rows.new) }
     ensures followed { OnOk result (IsFollowed automaton.now question.now rows.new number) }
 {
@@ -267,15 +276,23 @@ fn add_next(
     byte: u8,
     memory: &mut Memory,
 ) -> Result<(), AllocError>
+    // The memory has room for the automaton. The row is one of those of a search so far, none of which came from a row after it.
     requires room { HasRoom automaton.now memory.old }
     requires rows { AreRows automaton.now question.now domain rows.old }
     requires number { number < length rows.old.seen.keys }
     requires before { CameBefore rows.old (number + 1) }
+
+    // A wanted path leads to an end of the index 0, and `leading` marks each state from which a text may lead there.
     requires required { 0 < question.now.required }
     requires leading { AreLeading automaton.now 0 leading.now }
+
+    // After success the rows are as required above, and the memory is in any case.
     ensures room { HasRoom automaton.now memory.new }
     ensures rows { OnOk result (AreRows automaton.now question.now domain rows.new) }
     ensures before { OnOk result (CameBefore rows.new (number + 1)) }
+
+    // After success each row is still there. A text that begins with the byte and is wanted from this row is wanted, without the
+    // byte, from the first row, or from one that came from this row or an earlier one.
     ensures kept { OnOk result (KeepsRows rows.old rows.new) }
     ensures followed { OnOk result (IsFollowedBy automaton.now question.now rows.new number byte) }
 {

@@ -208,8 +208,12 @@ fn cover<T: Compared>(
     domain: Domain,
     limit: usize,
 ) -> Result<Reachability, AllocError>
+    // `others` has only indexes of the list, and `by` has only some of these.
     requires within { (k : ℕ) → Contains others.now k → k < length items.now }
     requires by { (k : ℕ) → Contains by.now k → Contains others.now k }
+
+    // The items at `by` cover the item, which matches some path of the domain. No item that was not found covers it alone. The
+    // answer is right.
     requires covered { IsCovered (T.matches options) item.now (items_at items.now by.now) domain }
     requires some { IsCovered (T.matches options) item.now [] domain → ⊥ }
     requires found { (k : ℕ) → IsFalse (has_index found.now k)

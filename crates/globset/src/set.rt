@@ -120,7 +120,7 @@ impl GlobSet {
 
     /// Returns the set of these globs, in order, each with its own options. The globs are read, and not copied.
     ///
-    /// The iterator has to end, and the prover has to know its items, as it knows the items of a slice, of a `Vec` and of
+    /// The iterator has to end, and the checker has to know its items, as it knows the items of a slice, of a `Vec` and of
     /// iterators over either.
     ///
     /// Keys and states take time and memory linear in the texts of the globs, except that some of these are sorted. Rows of

@@ -360,13 +360,18 @@ impl Strategy {
         cache: &mut Option<Cache>,
         visits: &mut Visits,
     ) -> Result<bool, AllocError>
+        // A cache is of the strategy's automaton, before and after the call. The answer is right for each glob of the strategy.
         requires { IfSome cache.old (IsCacheOf self.now) }
         ensures cache { cache.new ≡ cache.old }
         ensures some { IfOk result
             (λ yes. (g : GlobValue) → IsStrategyOfMatcher g self.now
             → yes ≡ glob_matches g path.now) }
+
+        // The sets lose no room. Memory runs out only if they have too little room for the automaton's states.
         ensures room { form_states self.now ≤ sets_capacity sets.old → IsOk result }
         ensures kept { sets_capacity sets.old ≤ sets_capacity sets.new }
+
+        // The number of visits never decreases, and its increase is bounded.
         ensures visits { (g : GlobValue) → IsStrategyOfMatcher g self.now
             → visits.new ≤ visits.old + max_visits g path.now }
         ensures counted { visits.old ≤ visits.new }
@@ -392,13 +397,18 @@ impl Strategy {
         cache: &mut Option<Cache>,
         visits: &mut Visits,
     ) -> Result<bool, AllocError>
+        // A cache is of the strategy's automaton, before and after the call. The answer is right for each glob of the strategy.
         requires { IfSome cache.old (IsCacheOf self.now) }
         ensures cache { cache.new ≡ cache.old }
         ensures some { IfOk result
             (λ yes. (g : GlobValue) → IsStrategyOfMatcher g self.now
             → IsTrue yes ↔ GlobMatchesBelow g folder.now) }
+
+        // The sets lose no room. Memory runs out only if they have too little room for the automaton's states.
         ensures room { form_states self.now ≤ sets_capacity sets.old → IsOk result }
         ensures kept { sets_capacity sets.old ≤ sets_capacity sets.new }
+
+        // The number of visits never decreases, and its increase is bounded.
         ensures visits { (g : GlobValue) → IsStrategyOfMatcher g self.now
             → visits.new ≤ visits.old + max_visits_below g folder.now }
         ensures counted { visits.old ≤ visits.new }

@@ -109,16 +109,24 @@ impl Automata {
         caches: &mut Caches,
         visits: &mut Visits,
     ) -> Result<bool, AllocError>
+        // Each cache is of the automaton that it is used with. The path consists of bytes.
         requires caches { AreCachesOf self.now caches.old }
         requires bytes { AllBytes path.now }
+
+        // Each cache is of the same automaton afterwards. If the answer is true, the marks are exactly the matching indexes. If
+        // it is false, there are no states to run, and no glob matches.
         ensures caches { caches.new ≡ caches.old }
         ensures found { IfOk result (λ some. some ≡ true → IsFoundSet self.now path.now marks.new) }
         ensures idle { IfOk result (λ some. some ≡ false → AreIdle self.now path.now) }
+
+        // The sets and the marks lose no room. Memory runs out only if there are states to run and either has too little room.
         ensures kept { sets_capacity sets.old ≤ sets_capacity sets.new }
         ensures marks { index_capacity marks.old ≤ index_capacity marks.new }
         ensures memory { states_for self.now path.now ≡ 0 → IsOk result }
         ensures room { max_states self.now ≤ sets_capacity sets.old
             → self.now.extensions.index_count ≤ index_capacity marks.old → IsOk result }
+
+        // The number of visits never decreases, and its increase is bounded.
         ensures visits { visits.new
             ≤ visits.old + (1 + (length path.now + 1) * reads_for self.now path.now) }
         ensures counted { visits.old ≤ visits.new }
@@ -163,15 +171,22 @@ impl Automata {
         caches: &mut Caches,
         visits: &mut Visits,
     ) -> Result<bool, AllocError>
+        // Each cache is of the automaton that it is used with. The path consists of bytes.
         requires caches { AreCachesOf self.now caches.old }
         requires bytes { AllBytes path.now }
+
+        // Each cache is of the same automaton afterwards. The answer tells whether some glob matches the path.
         ensures caches { caches.new ≡ caches.old }
         ensures some { IfOk result
             (λ yes. (t : TokenLists) → AreForLists self.now t
             → IsTrue yes ↔ ((k : ℕ) × AreFound self.now.extensions.slots t path.now k)) }
+
+        // The sets lose no room. Memory runs out only if there are states to run and the sets have too little room.
         ensures kept { sets_capacity sets.old ≤ sets_capacity sets.new }
         ensures memory { states_for self.now path.now ≡ 0 → IsOk result }
         ensures room { max_states self.now ≤ sets_capacity sets.old → IsOk result }
+
+        // The number of visits never decreases, and its increase is bounded.
         ensures visits { visits.new
             ≤ visits.old + (1 + (length path.now + 1) * reads_for self.now path.now) }
         ensures counted { visits.old ≤ visits.new }
@@ -248,14 +263,19 @@ impl Automata {
         caches: &mut Caches,
         visits: &mut Visits,
     ) -> Result<bool, AllocError>
+        // Each cache is of the automaton that it is used with, before and after the call. The answer is right.
         requires { AreCachesOf self.now caches.old }
         ensures caches { caches.new ≡ caches.old }
         ensures some { IfOk result
             (λ yes. (t : TokenLists) → AreForLists self.now t
             → IsTrue yes ↔ AreFoundBelow self.now.extensions t folder.now) }
+
+        // The sets lose no room. Memory runs out only if there are states to run and the sets have too little room.
         ensures kept { sets_capacity sets.old ≤ sets_capacity sets.new }
         ensures memory { folder_reads self.now ≡ 0 → IsOk result }
         ensures room { max_states self.now ≤ sets_capacity sets.old → IsOk result }
+
+        // The number of visits never decreases, and its increase is bounded.
         ensures visits { visits.new ≤ visits.old + (length folder.now + 2) * folder_reads self.now }
         ensures counted { visits.old ≤ visits.new }
     {

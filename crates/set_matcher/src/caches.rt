@@ -131,16 +131,25 @@ impl SlotCaches {
         marks: &mut IndexSet,
         visits: &mut Visits,
     ) -> Result<(), AllocError>
+        // The path consists of bytes, and the marks have room for each index. The slot's cache is of the automaton. Where there
+        // is no slot, the automaton has no states.
         requires bytes { AllBytes path.now }
         requires count { automaton.now.index_count ≤ index_capacity marks.old }
         requires cache { (s : ℕ) → slot ≡ Some s → IsCacheAt self.old s automaton.now }
         requires none { slot ≡ None → size automaton.now ≡ 0 }
+
+        // Each cache is of the same automaton afterwards, and the marks have the same room. After success the marks have the
+        // matching indexes in addition.
         ensures caches { self.new ≡ self.old }
         ensures room { index_capacity marks.new ≡ index_capacity marks.old }
         ensures found { OnOk result
             (AddsMatches automaton.now (before_extension path.now) marks.old marks.new) }
+
+        // The sets lose no room. Memory runs out only if they have too little room for the automaton's states.
         ensures kept { sets_capacity sets.old ≤ sets_capacity sets.new }
         ensures memory { size automaton.now ≤ sets_capacity sets.old → IsOk result }
+
+        // The number of visits never decreases, and its increase is bounded.
         ensures visits { visits.new ≤ visits.old + (length path.now + 1) * max_reads automaton.now }
         ensures counted { visits.old ≤ visits.new }
     {
@@ -167,13 +176,20 @@ impl SlotCaches {
         sets: &mut StateSets,
         visits: &mut Visits,
     ) -> Result<bool, AllocError>
+        // The path consists of bytes. The slot's cache is of the automaton. Where there is no slot, the automaton has no states.
         requires bytes { AllBytes path.now }
         requires cache { (s : ℕ) → slot ≡ Some s → IsCacheAt self.old s automaton.now }
         requires none { slot ≡ None → size automaton.now ≡ 0 }
+
+        // Each cache is of the same automaton afterwards. The answer tells whether tokens match the bytes before the extension.
         ensures caches { self.new ≡ self.old }
         ensures some { IfOk result (TellsMatch automaton.now (before_extension path.now)) }
+
+        // The sets lose no room. Memory runs out only if they have too little room for the automaton's states.
         ensures kept { sets_capacity sets.old ≤ sets_capacity sets.new }
         ensures memory { size automaton.now ≤ sets_capacity sets.old → IsOk result }
+
+        // The number of visits never decreases, and its increase is bounded.
         ensures visits { visits.new ≤ visits.old + (length path.now + 1) * max_reads automaton.now }
         ensures counted { visits.old ≤ visits.new }
     {
@@ -200,13 +216,18 @@ impl SlotCaches {
         sets: &mut StateSets,
         visits: &mut Visits,
     ) -> Result<bool, AllocError>
+        // The slot's cache is of the automaton, before and after the call. The answer is right.
         requires { IsCacheAt self.old slot automaton.now }
         ensures caches { self.new ≡ self.old }
         ensures some { IfOk result
             (λ yes. (xs : List IndexedTokens) → IsFor automaton.now xs
             → IsTrue yes ↔ SomeMeanAfter xs (text.now ++ byte ∷ [])) }
+
+        // The sets lose no room. Memory runs out only if they have too little room for the automaton's states.
         ensures kept { sets_capacity sets.old ≤ sets_capacity sets.new }
         ensures memory { size automaton.now ≤ sets_capacity sets.old → IsOk result }
+
+        // The number of visits never decreases, and its increase is bounded.
         ensures visits { visits.new ≤ visits.old + (length text.now + 2) * max_reads automaton.now }
         ensures counted { visits.old ≤ visits.new }
     {

@@ -128,16 +128,24 @@ impl SetMatcher {
         into: &mut Vec<usize>,
         visits: &mut Visits,
     ) -> Result<(), AllocError>
+        // Each cache is of the automaton that it is used with, before and after the call.
         requires { AreCachesOf self.now.automata caches.old }
         ensures caches { caches.new ≡ caches.old }
+
+        // After success the vector has the matching indexes, and after an error it is empty.
         ensures ok { OnOk result
             (into.new.items ≡ matching_indexes (set_globs self.now.set) path.now) }
         ensures cleared { OnErr result (into.new.items ≡ []) }
+
+        // The scratch fits all that it fitted before, and the vector's capacity does not shrink. Memory runs out only if the
+        // scratch does not fit the set or the capacity is below the number of globs.
         ensures kept { scratch.new ≡ scratch.old }
         ensures room { HasCapacity scratch.old (set_states self.now.set)
             (length (set_globs self.now.set))
             → length (set_globs self.now.set) ≤ vec_capacity into.old → IsOk result }
         ensures capacity { vec_capacity into.old ≤ vec_capacity into.new }
+
+        // The number of visits never decreases, and its increase is bounded.
         ensures visits { visits.new
             ≤ visits.old + max_set_visits (set_globs self.now.set) path.now }
         ensures counted { visits.old ≤ visits.new }
@@ -176,13 +184,19 @@ impl SetMatcher {
         caches: &mut Caches,
         visits: &mut Visits,
     ) -> Result<bool, AllocError>
+        // Each cache is of the automaton that it is used with, before and after the call. The answer is right.
         requires { AreCachesOf self.now.automata caches.old }
         ensures caches { caches.new ≡ caches.old }
         ensures some { IfOk result
             (λ yes. IsTrue yes ↔ (matching_indexes (set_globs self.now.set) path.now ≢ [])) }
+
+        // The sets lose no room. Memory runs out only if some glob needs an automaton for the path and the sets have too little
+        // room.
         ensures kept { sets_capacity sets.old ≤ sets_capacity sets.new }
         ensures room { set_states self.now.set ≤ sets_capacity sets.old → IsOk result }
         ensures memory { load (set_globs self.now.set) path.now ≡ 0 → IsOk result }
+
+        // The number of visits never decreases, and its increase is bounded.
         ensures visits { visits.new
             ≤ visits.old + max_set_visits (set_globs self.now.set) path.now }
         ensures counted { visits.old ≤ visits.new }
@@ -208,16 +222,22 @@ impl SetMatcher {
         caches: &mut Caches,
         visits: &mut Visits,
     ) -> Result<bool, AllocError>
+        // Each cache is of the automaton that it is used with, before and after the call. The answer is right.
         requires { AreCachesOf self.now.automata caches.old }
         ensures caches { caches.new ≡ caches.old }
         ensures all { IfOk result
             (λ yes. IsTrue yes
             ↔ ContainsAllBelow (matching_indexes (set_globs self.now.set) path.now)
             (length (set_globs self.now.set))) }
+
+        // The scratch fits all that it fitted before. Memory runs out only if some glob needs an automaton for the path and the
+        // scratch does not fit the set.
         ensures kept { scratch.new ≡ scratch.old }
         ensures room { HasCapacity scratch.old (set_states self.now.set)
             (length (set_globs self.now.set)) → IsOk result }
         ensures memory { load (set_globs self.now.set) path.now ≡ 0 → IsOk result }
+
+        // The number of visits never decreases, and its increase is bounded.
         ensures visits { visits.new
             ≤ visits.old + max_set_visits (set_globs self.now.set) path.now }
         ensures counted { visits.old ≤ visits.new }
@@ -245,13 +265,18 @@ impl SetMatcher {
         caches: &mut Caches,
         visits: &mut Visits,
     ) -> Result<bool, AllocError>
+        // Each cache is of the automaton that it is used with, before and after the call. The answer is right.
         requires { AreCachesOf self.now.automata caches.old }
         ensures caches { caches.new ≡ caches.old }
         ensures some { IfOk result
             (λ yes. IsTrue yes ↔ MatchesBelow (set_globs self.now.set) folder.now) }
+
+        // The sets lose no room. Memory runs out only if some glob is not direct and the sets have too little room.
         ensures kept { sets_capacity sets.old ≤ sets_capacity sets.new }
         ensures room { set_states self.now.set ≤ sets_capacity sets.old → IsOk result }
         ensures memory { load_below (set_globs self.now.set) ≡ 0 → IsOk result }
+
+        // The number of visits never decreases, and its increase is bounded.
         ensures visits { visits.new
             ≤ visits.old + max_set_visits_below (set_globs self.now.set) folder.now }
         ensures counted { visits.old ≤ visits.new }
@@ -336,12 +361,17 @@ impl SetMatcherBuilder {
         options: Options,
         tokens: &[Token],
     ) -> Result<(), AllocError>
+        // Another glob may be added. The tokens are those that its text is read as: they are nested, and the text bounds their
+        // weight.
         requires room { length self.old.given < self.old.count }
         requires read { reading options (chars (string_bytes text.now))
             ≡ Ok (tokens_of tokens.now) }
         requires nested { IsNested (flats tokens.now) }
         requires weight { weight options (tokens_of tokens.now)
             ≤ states_per_byte options * length (string_bytes text.now) }
+
+        // After success the builder has this glob in addition, and after an error it has no globs. The number of globs that it is
+        // for stays.
         ensures glob { OnOk result
             (self.new.given ≡ self.old.given ++ glob_value (string_bytes text.now) options ∷ []) }
         ensures none { OnErr result (self.new.given ≡ []) }

@@ -49,15 +49,23 @@ pub fn run(
     marks: &mut IndexSet,
     visits: &mut Visits,
 ) -> Result<(), AllocError>
+    // The path consists of bytes, and the marks have room for each index. A cache, if there is one, is of the automaton.
     requires bytes { AllBytes path.now }
     requires count { automaton.now.index_count ≤ index_capacity marks.old }
     requires cache { IfSome cache.old (λ c. c ≡ automaton.now) }
+
+    // A cache is of the same automaton afterwards, and the marks have the same room. After success the marks have the matching
+    // indexes in addition.
     ensures cache { cache.new ≡ cache.old }
     ensures room { index_capacity marks.new ≡ index_capacity marks.old }
     ensures found { OnOk result
         (AddsMatches automaton.now (part_of part path.now) marks.old marks.new) }
+
+    // The sets lose no room. Memory runs out only if they have too little room for the automaton's states.
     ensures kept { sets_capacity sets.old ≤ sets_capacity sets.new }
     ensures memory { size automaton.now ≤ sets_capacity sets.old → IsOk result }
+
+    // The number of visits never decreases, and its increase is bounded.
     ensures visits { visits.new ≤ visits.old + (length path.now + 1) * max_reads automaton.now }
     ensures counted { visits.old ≤ visits.new }
 {
@@ -78,12 +86,19 @@ pub fn matches_part(
     cache: &mut Option<Cache>,
     visits: &mut Visits,
 ) -> Result<bool, AllocError>
+    // The path consists of bytes. A cache, if there is one, is of the automaton.
     requires bytes { AllBytes path.now }
     requires cache { IfSome cache.old (λ c. c ≡ automaton.now) }
+
+    // A cache is of the same automaton afterwards. The answer tells whether tokens match the part of the path.
     ensures cache { cache.new ≡ cache.old }
     ensures some { IfOk result (TellsMatch automaton.now (part_of part path.now)) }
+
+    // The sets lose no room. Memory runs out only if they have too little room for the automaton's states.
     ensures kept { sets_capacity sets.old ≤ sets_capacity sets.new }
     ensures memory { size automaton.now ≤ sets_capacity sets.old → IsOk result }
+
+    // The number of visits never decreases, and its increase is bounded.
     ensures visits { visits.new ≤ visits.old + (length path.now + 1) * max_reads automaton.now }
     ensures counted { visits.old ≤ visits.new }
 {

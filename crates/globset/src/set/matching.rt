@@ -113,8 +113,12 @@ impl GlobSet {
     ) -> Result<(), Error>
         ensures ok { OnOk result (into.new.items ≡ matching_indexes (set_globs self.now) path.now) }
         ensures err { IsOkUnless result out_of_memory }
+
+        // The call succeeds if the set has no globs. After an error the vector is empty.
         ensures succeeds_if_empty { set_globs self.now ≡ [] → IsOk result }
         ensures cleared { OnErr result (into.new.items ≡ []) }
+
+        // The number of visits never decreases, and its increase is bounded. A set without globs adds none.
         ensures visits { visits.new ≤ visits.old + max_set_visits (set_globs self.now) path.now }
         ensures counted { visits.old ≤ visits.new }
         ensures no_visits_if_empty { set_globs self.now ≡ [] → visits.new ≡ visits.old }
@@ -150,11 +154,17 @@ impl GlobSet {
         requires { Fits scratch.old self.now }
         ensures ok { OnOk result (into.new.items ≡ matching_indexes (set_globs self.now) path.now) }
         ensures err { IsOkUnless result out_of_memory }
+
+        // The call succeeds if the vector has a capacity for the indexes of all globs. The capacity never shrinks.
         ensures succeeds_with_capacity { length (set_globs self.now) ≤ vec_capacity into.old
             → IsOk result }
         ensures capacity { vec_capacity into.old ≤ vec_capacity into.new }
+
+        // After an error the vector is empty. The scratch fits all that it fitted before, after an error too.
         ensures cleared { OnErr result (into.new.items ≡ []) }
         ensures kept { scratch.new ≡ scratch.old }
+
+        // The number of visits never decreases, and its increase is bounded. A set without globs adds none.
         ensures visits { visits.new ≤ visits.old + max_set_visits (set_globs self.now) path.now }
         ensures counted { visits.old ≤ visits.new }
         ensures no_visits_if_empty { set_globs self.now ≡ [] → visits.new ≡ visits.old }
@@ -214,8 +224,12 @@ impl GlobSet {
         ensures ok { IfOk result
             (λ yes. IsTrue yes ↔ (matching_indexes (set_globs self.now) path.now ≢ [])) }
         ensures err { IsOkUnless result out_of_memory }
+
+        // The call succeeds if the set has no globs, or if none of them needs an automaton for the path.
         ensures succeeds_if_empty { set_globs self.now ≡ [] → IsOk result }
         ensures succeeds_without_automata { load (set_globs self.now) path.now ≡ 0 → IsOk result }
+
+        // The number of visits never decreases, and its increase is bounded. A set without globs adds none.
         ensures visits { visits.new ≤ visits.old + max_set_visits (set_globs self.now) path.now }
         ensures counted { visits.old ≤ visits.new }
         ensures no_visits_if_empty { set_globs self.now ≡ [] → visits.new ≡ visits.old }
@@ -238,6 +252,8 @@ impl GlobSet {
         requires { Fits scratch.old self.now }
         ensures some { IsTrue result ↔ (matching_indexes (set_globs self.now) path.now ≢ []) }
         ensures kept { scratch.new ≡ scratch.old }
+
+        // The number of visits never decreases, and its increase is bounded. A set without globs adds none.
         ensures visits { visits.new ≤ visits.old + max_set_visits (set_globs self.now) path.now }
         ensures counted { visits.old ≤ visits.new }
         ensures no_visits_if_empty { set_globs self.now ≡ [] → visits.new ≡ visits.old }
@@ -305,8 +321,12 @@ impl GlobSet {
             ↔ ContainsAllBelow (matching_indexes (set_globs self.now) path.now)
             (length (set_globs self.now))) }
         ensures err { IsOkUnless result out_of_memory }
+
+        // The call succeeds if the set has no globs, or if none of them needs an automaton for the path.
         ensures succeeds_if_empty { set_globs self.now ≡ [] → IsOk result }
         ensures succeeds_without_automata { load (set_globs self.now) path.now ≡ 0 → IsOk result }
+
+        // The number of visits never decreases, and its increase is bounded. A set without globs adds none.
         ensures visits { visits.new ≤ visits.old + max_set_visits (set_globs self.now) path.now }
         ensures counted { visits.old ≤ visits.new }
         ensures no_visits_if_empty { set_globs self.now ≡ [] → visits.new ≡ visits.old }
@@ -336,6 +356,8 @@ impl GlobSet {
             ↔ ContainsAllBelow (matching_indexes (set_globs self.now) path.now)
             (length (set_globs self.now)) }
         ensures kept { scratch.new ≡ scratch.old }
+
+        // The number of visits never decreases, and its increase is bounded. A set without globs adds none.
         ensures visits { visits.new ≤ visits.old + max_set_visits (set_globs self.now) path.now }
         ensures counted { visits.old ≤ visits.new }
         ensures no_visits_if_empty { set_globs self.now ≡ [] → visits.new ≡ visits.old }
@@ -409,8 +431,12 @@ impl GlobSet {
         ensures ok { IfOk result
             (λ yes. IsTrue yes ↔ MatchesBelow (set_globs self.now) folder.now) }
         ensures err { IsOkUnless result out_of_memory }
+
+        // The call succeeds if the set has no globs, or if each of them is direct.
         ensures succeeds_if_empty { set_globs self.now ≡ [] → IsOk result }
         ensures succeeds_without_automata { load_below (set_globs self.now) ≡ 0 → IsOk result }
+
+        // The number of visits never decreases, and its increase is bounded. A set without globs adds none.
         ensures visits { visits.new
             ≤ visits.old + max_set_visits_below (set_globs self.now) folder.now }
         ensures counted { visits.old ≤ visits.new }
@@ -451,6 +477,8 @@ impl GlobSet {
         requires { Fits scratch.old self.now }
         ensures some { IsTrue result ↔ MatchesBelow (set_globs self.now) folder.now }
         ensures kept { scratch.new ≡ scratch.old }
+
+        // The number of visits never decreases, and its increase is bounded. A set without globs adds none.
         ensures visits { visits.new
             ≤ visits.old + max_set_visits_below (set_globs self.now) folder.now }
         ensures counted { visits.old ≤ visits.new }

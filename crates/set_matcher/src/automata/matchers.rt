@@ -105,10 +105,15 @@ impl ExtensionMatchers {
 
     /// Returns the automaton of a slot, or an automaton without states if there is none.
     pub fn automaton_at(&self, slot: Option<usize>) -> &Compiled
+        // The slot, if there is any, is the position of an automaton.
         requires { (s : ℕ) → slot ≡ Some s → s < length self.now.nfas }
         ensures automaton { result.now ≡ nfa_at self.now slot }
+
+        // The automaton has no more states than the largest one, and its indexes are below the same number as those of all.
         ensures maximum { size result.now ≤ max_size self.now.nfas }
         ensures count { result.now.index_count ≡ self.now.index_count }
+
+        // The automaton is for the tokens of the slot. Without a slot it is for no tokens, and has no states.
         ensures tokens { (by_slot : ℕ → List IndexedTokens) → AreFor self.now.nfas by_slot
             → IsFor result.now (option_map_or by_slot slot []) }
         ensures none { slot ≡ None → size result.now ≡ 0 }
@@ -157,11 +162,16 @@ impl ExtensionMatchers {
         caches: &mut SlotCaches,
         visits: &mut Visits,
     ) -> Result<bool, AllocError>
+        // Each cache is of the automaton that it is used with, before and after the call. The answer is right.
         requires { AreSlotCaches self.now.nfas self.now.none caches.old }
         ensures caches { caches.new ≡ caches.old }
         ensures some { IfOk result (λ yes. TellsSomeAfter self.now (text.now ++ byte ∷ []) yes) }
+
+        // The sets lose no room. Memory runs out only if they have too little room for the largest automaton.
         ensures kept { sets_capacity sets.old ≤ sets_capacity sets.new }
         ensures room { max_size self.now.nfas ≤ sets_capacity sets.old → IsOk result }
+
+        // The number of visits never decreases, and its increase is bounded.
         ensures visits { visits.new
             ≤ visits.old + (length text.now + 2) * total_reads self.now.nfas }
         ensures counted { visits.old ≤ visits.new }
@@ -231,8 +241,13 @@ impl ExtensionMatchersBuilder {
         tokens: &[Token],
         index: usize,
     ) -> Result<(), AllocError>
+        // The groups of the tokens are nested, and the index is in range.
         requires nested { IsNested (flats tokens.now) }
         requires index { index < self.old.index_count }
+
+        // After success the extension has these tokens in addition. At most their reads are added to its own, and to those of all
+        // extensions together. Every other extension keeps its tokens, and gets no reads. The number that each index is below
+        // stays as it is.
         ensures tokens { OnOk result
             (AddsTokensTo self.old self.new key.items
             (indexed options (tokens_of tokens.now) index)) }
@@ -269,6 +284,9 @@ impl ExtensionMatchersBuilder {
     fn add_slot(&mut self, alloc: Global, key: Vec<u8>) -> Result<usize, AllocError>
         requires { slot_of self.old.slots key.items ≡ None }
         ensures slot { IfOk result (λ slot. slot_of self.new.slots key.items ≡ Some slot) }
+
+        // After success each extension has the tokens that it had, and as many reads. The reads of all extensions together stay,
+        // too. The number that each index is below stays as it is.
         ensures tokens { OnOk result
             ((before : ℕ → List IndexedTokens) → AreFor self.old.nfas before
             → KeepsTokens self.old before self.new) }
