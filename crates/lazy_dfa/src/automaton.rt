@@ -119,13 +119,18 @@ impl LazyDfa {
         found: &mut IndexSet,
         visits: &mut Visits,
     ) -> Result<(), AllocError>
+        // The set needs room for the indexes, keeps its capacity, and gets what is found in addition to what it held.
         requires { self.now.nfa.index_count ≤ index_capacity found.old }
         ensures room { index_capacity found.new ≡ index_capacity found.old }
         ensures found { OnOk result
             ((k : ℕ) → IsTrue (has_index found.new k)
             ↔ (IsReached self.now.nfa text.now k ⊎ IsTrue (has_index found.old k))) }
+
+        // The sets of states lose no room, and memory runs out only if they have too little for the automaton.
         ensures kept { sets_capacity sets.old ≤ sets_capacity sets.new }
         ensures memory { size self.now.nfa ≤ sets_capacity sets.old → IsOk result }
+
+        // The visits are bounded, and do not become fewer.
         ensures visits { visits.new ≤ visits.old + (length text.now + 1) * size self.now.nfa }
         ensures counted { visits.old ≤ visits.new }
     {

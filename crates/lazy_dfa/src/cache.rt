@@ -83,12 +83,17 @@ impl Cache {
     /// one visit, and a row is looked up, which is one more. So it is at most `(text bytes + 1) * (states + 1)` visits. It takes
     /// no memory: if there is no room for a row, all rows are forgotten, which is no visit.
     pub fn find(&mut self, text: &[u8], found: &mut IndexSet, visits: &mut Visits)
+        // The set needs room for the indexes, and the cache keeps its automaton.
         requires room { self.old.index_count ≤ index_capacity found.old }
         ensures same { self.new ≡ self.old }
+
+        // The set keeps its capacity, and gets what is found in addition to what it held.
         ensures room { index_capacity found.new ≡ index_capacity found.old }
         ensures found { (k : ℕ)
             → IsTrue (has_index found.new k)
             ↔ (IsReached self.old text.now k ⊎ IsTrue (has_index found.old k)) }
+
+        // The visits are bounded, and do not become fewer.
         ensures visits { visits.new ≤ visits.old + (length text.now + 1) * (size self.old + 1) }
         ensures counted { visits.old ≤ visits.new }
     {
@@ -100,14 +105,19 @@ impl Cache {
     /// The same as [`Cache::find`] by entries that are there. Returns whether all that it needs are; if not, some of the indexes
     /// are put into the set. It is at most one visit for each byte and one more.
     pub fn find_known(&self, text: &[u8], found: &mut IndexSet, visits: &mut Visits) -> bool
+        // The set needs room for the indexes, keeps its capacity, and gets all that is found if the result is `true`.
         requires room { self.now.index_count ≤ index_capacity found.old }
         ensures room { index_capacity found.new ≡ index_capacity found.old }
         ensures found { IsTrue result → (k : ℕ)
             → IsTrue (has_index found.new k)
             ↔ (IsReached self.now text.now k ⊎ IsTrue (has_index found.old k)) }
+
+        // In any case the set keeps what it held, and gets only indexes of ends that the text leads to.
         ensures kept { (k : ℕ) → IsTrue (has_index found.old k) → IsTrue (has_index found.new k) }
         ensures sound { (k : ℕ) → IsTrue (has_index found.new k)
             → IsReached self.now text.now k ⊎ IsTrue (has_index found.old k) }
+
+        // The visits are bounded, and do not become fewer.
         ensures visits { visits.new ≤ visits.old + (length text.now + 1) }
         ensures counted { visits.old ≤ visits.new }
     {

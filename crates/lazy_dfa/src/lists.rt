@@ -25,14 +25,19 @@ pub fn states_at<'a>(starts: &[u32], lists: &'a [u32], row: usize) -> &'a [u32]
 /// Makes `list` the list of the states below a bound that a set has. It allocates nothing if there is room for `limit` states,
 /// and is at most `limit` visits.
 pub fn list_of(set: &StateSet, limit: usize, list: &mut Vec<u32>, visits: &mut Visits)
+    // The states below the limit fit a `u32` and the set, and the list has room for all of them.
     requires fits { limit ≤ 4294967296 }
     requires within { limit ≤ state_capacity set.now }
     requires room { limit ≤ vec_capacity list.old }
+
+    // The list has exactly the states of the set below the limit. It is no longer than the limit, and loses no room.
     ensures below { AreBelow limit list.new.items }
     ensures few { length list.new.items ≤ limit }
     ensures has { (t : ℕ)
         → IsTrue (has_number t list.new.items) ↔ ((t < limit) × IsTrue (has_state set.now t)) }
     ensures capacity { vec_capacity list.old ≤ vec_capacity list.new }
+
+    // The visits are bounded, and do not become fewer.
     ensures visits { visits.new ≤ visits.old + limit }
     ensures counted { visits.old ≤ visits.new }
 {
@@ -49,8 +54,11 @@ pub fn list_of(set: &StateSet, limit: usize, list: &mut Vec<u32>, visits: &mut V
 
 /// Makes `list` the list of the indexes below a bound that a set has. It allocates nothing if there is room for `limit` indexes.
 pub fn list_indexes(set: &IndexSet, limit: usize, list: &mut Vec<u32>)
+    // The indexes below the limit fit a `u32`, and the list has room for all of them.
     requires fits { limit ≤ 4294967296 }
     requires room { limit ≤ vec_capacity list.old }
+
+    // The list has exactly the indexes of the set below the limit. It is no longer than the limit, and loses no room.
     ensures below { AreBelow limit list.new.items }
     ensures few { length list.new.items ≤ limit }
     ensures has { (k : ℕ)

@@ -28,13 +28,18 @@ pub fn read(
     ends: &mut IndexSet,
     visits: &mut Visits,
 )
+    // A `u32` holds each state. The set and the list have room for all states, and `ends` has room for all indexes.
     requires fits { size automaton.now < 4294967296 }
     requires from_capacity { size automaton.now ≤ state_capacity from.old }
     requires to_capacity { size automaton.now ≤ vec_capacity to.old }
     requires ends_capacity { automaton.now.index_count ≤ index_capacity ends.old }
+
+    // The sets keep their capacity, and the list keeps its room.
     ensures from_capacity { state_capacity from.new ≡ state_capacity from.old }
     ensures to_capacity { vec_capacity to.old ≤ vec_capacity to.new }
     ensures ends_capacity { index_capacity ends.new ≡ index_capacity ends.old }
+
+    // The list has the states after the byte, at most as many as there are, and `ends` has the ends without a byte.
     ensures below { AreBelow (size automaton.now) to.new.items }
     ensures few { length to.new.items ≤ size automaton.now }
     ensures steps { (y : List ℕ) (k : ℕ)
@@ -42,6 +47,8 @@ pub fn read(
         ↔ AcceptsIn automaton.now to.new.items y k }
     ensures ends { (k : ℕ)
         → IsTrue (has_index ends.new k) ↔ AcceptsFrom automaton.now from.old [] k }
+
+    // The visits are at most as many as the states, and at least as many as the list is long.
     ensures visits { visits.new ≤ visits.old + size automaton.now }
     ensures counted { visits.old + length to.new.items ≤ visits.new }
 {
@@ -68,17 +75,26 @@ fn take(
     to: &mut Vec<u32>,
     ends: &mut IndexSet,
 )
+    // The automaton has the state, and a `u32` holds each of its states.
     requires exists { s < size automaton.now }
     requires fits { size automaton.now < 4294967296 }
+
+    // `from` has room for all states, `ends` for all indexes, and `to` for one state more. `to` has states alone.
     requires from_capacity { size automaton.now ≤ state_capacity from.old }
     requires to_capacity { length to.old.items < vec_capacity to.old }
     requires ends_capacity { automaton.now.index_count ≤ index_capacity ends.old }
     requires to_below { AreBelow (size automaton.now) to.old.items }
+
+    // The sets keep their capacity, and the list keeps its room.
     ensures from_capacity { state_capacity from.new ≡ state_capacity from.old }
     ensures to_capacity { vec_capacity to.old ≤ vec_capacity to.new }
     ensures ends_capacity { index_capacity ends.new ≡ index_capacity ends.old }
+
+    // The list still has states alone, and at most one more than before.
     ensures to_below { AreBelow (size automaton.now) to.new.items }
     ensures few { length to.new.items ≤ length to.old.items + 1 }
+
+    // `from` gets the lower states reached without a byte, `to` the one after the byte, and `ends` the index of an end.
     ensures below { GoesBelow s (state automaton.now.states s) }
     ensures from { (t : ℕ)
         → has_state from.new t
@@ -103,8 +119,11 @@ fn take(
 
 /// Appends a number to a list that has room for it, unless it is the last one there.
 fn push_unless_last(list: &mut Vec<u32>, number: usize)
+    // A `u32` holds the number, and the list has room for it.
     requires fits { number < 4294967296 }
     requires room { length list.old.items < vec_capacity list.old }
+
+    // The list keeps its room, becomes at most one longer, and has its old numbers and this one. Bounds on these still hold.
     ensures capacity { vec_capacity list.old ≤ vec_capacity list.new }
     ensures few { length list.new.items ≤ length list.old.items + 1 }
     ensures has { (t : ℕ)

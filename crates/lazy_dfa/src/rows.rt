@@ -191,9 +191,12 @@ impl Rows {
     /// row is looked up, which is another.
     #[inline(always)]
     pub fn step(&mut self, automaton: &Nfa, place: usize, byte: u8, visits: &mut Visits) -> Step
+        // The rows are right for the automaton, which has a state, and there is a row at the place.
         requires sound { IsSound automaton.now self.old }
         requires row { (i : ℕ) × IsAt self.old i place }
         requires some { 0 < size automaton.now }
+
+        // The rows stay right, and the step says where the byte leads and whether the row has marks. The visits are bounded.
         ensures sound { IsSound automaton.now self.new }
         ensures step { (i : ℕ) → IsAt self.old i place
             → IsStep automaton.now self.old i byte result self.new }
@@ -244,12 +247,17 @@ impl Rows {
         entry: u32,
         visits: &mut Visits,
     ) -> Step
+        // The rows are right for the automaton, which has a state, and the row is one of them.
         requires sound { IsSound automaton.now self.old }
         requires row { row < length self.old.starts.items }
         requires some { 0 < size automaton.now }
+
+        // The row has marks, and the entry is known and says where the byte leads.
         requires marks { HasMarks automaton.now self.old row }
         requires next { IsNext automaton.now self.old row byte entry }
         requires known { 0 < entry }
+
+        // The rows stay right, and the step says where the byte leads and whether the row has marks. The visits are bounded.
         ensures sound { IsSound automaton.now self.new }
         ensures step { IsStep automaton.now self.old row byte result self.new }
         ensures visits { visits.new ≤ visits.old + (size automaton.now + 1) }
@@ -277,10 +285,13 @@ impl Rows {
         live: &StateSet,
         visits: &mut Visits,
     ) -> bool
+        // The rows are right for the automaton, there is a row at the place, and `live` says of each state whether it is live.
         requires sound { IsSound automaton.now self.now }
         requires row { (i : ℕ) × IsAt self.now i place }
         requires live { AreLive automaton.now live.now }
         requires room { size automaton.now ≤ state_capacity live.now }
+
+        // The result says whether some bytes lead from the row to an end, and the visits are bounded.
         ensures some { (i : ℕ) → IsAt self.now i place
             → IsTrue result ↔ ((k : ℕ) × (y : List ℕ) × AllBytes y
             × AcceptsRow automaton.now self.now i y k) }
@@ -300,15 +311,20 @@ impl Rows {
     ///
     /// It is as many visits as [`Rows::finish_row`] makes.
     pub fn finish(&mut self, automaton: &Nfa, place: usize, visits: &mut Visits) -> bool
+        // The rows are right for the automaton, which has a state, and there is a row at the place.
         requires sound { IsSound automaton.now self.old }
         requires row { (i : ℕ) × IsAt self.old i place }
         requires some { 0 < size automaton.now }
+
+        // The rows stay right, and the result says whether the row has ends without a byte. If it has any, `ends` has these.
         ensures sound { IsSound automaton.now self.new }
         ensures some { (i : ℕ) → IsAt self.old i place
             → IsTrue result ↔ ((k : ℕ) × (k < half automaton.now + half automaton.now)
             × AcceptsRow automaton.now self.old i [] k) }
         ensures ends { (i : ℕ) → IsAt self.old i place → IsTrue result
             → HasEnds automaton.now self.old i self.new.ends }
+
+        // The visits are bounded, and do not become fewer.
         ensures visits { visits.new ≤ visits.old + size automaton.now }
         ensures counted { visits.old ≤ visits.new }
     {
@@ -320,14 +336,19 @@ impl Rows {
     ///
     /// If it is known that it leads to none, that is one visit. Otherwise each state is read at most once, and is one visit.
     fn finish_row(&mut self, automaton: &Nfa, row: usize, visits: &mut Visits) -> bool
+        // The rows are right for the automaton, which has a state, and the row is one of them.
         requires sound { IsSound automaton.now self.old }
         requires row { row < length self.old.starts.items }
         requires some { 0 < size automaton.now }
+
+        // The rows stay right, and the result says whether the row has ends without a byte. If it has any, `ends` has these.
         ensures sound { IsSound automaton.now self.new }
         ensures some { IsTrue result
             ↔ ((k : ℕ) × (k < half automaton.now + half automaton.now)
             × AcceptsRow automaton.now self.old row [] k) }
         ensures ends { IsTrue result → HasEnds automaton.now self.old row self.new.ends }
+
+        // The visits are bounded, and do not become fewer.
         ensures visits { visits.new ≤ visits.old + size automaton.now }
         ensures counted { visits.old ≤ visits.new }
     {
@@ -357,8 +378,11 @@ impl Rows {
     #[cold]
     #[inline(never)]
     fn leave(&mut self, automaton: &Nfa, row: usize, byte: u8, visits: &mut Visits) -> Step
+        // The rows are right for the automaton, and the row is one of them.
         requires sound { IsSound automaton.now self.old }
         requires row { row < length self.old.starts.items }
+
+        // The rows stay right, and the step says where the byte leads and whether the row has marks. The visits are bounded.
         ensures sound { IsSound automaton.now self.new }
         ensures step { IsStep automaton.now self.old row byte result self.new }
         ensures visits { visits.new ≤ visits.old + (size automaton.now + 1) }
@@ -389,9 +413,12 @@ impl Rows {
 
     /// Returns whether a row has marks, by the indexes in `ends`. If it has, their list is kept.
     fn keep_marks(&mut self, automaton: &Nfa, row: usize) -> bool
+        // The rows are right for the automaton, the row is one of them, and `ends` has its ends without a byte.
         requires sound { IsSound automaton.now self.old }
         requires row { row < length self.old.starts.items }
         requires ends { HasEnds automaton.now self.old row self.old.ends }
+
+        // The rows stay right, none is forgotten, the result says whether the row has marks, and `ends` and `list` do not change.
         ensures sound { IsSound automaton.now self.new }
         ensures kept { KeepsRows self.old self.new }
         ensures marks { IsTrue result ↔ HasMarks automaton.now self.old row }
@@ -409,11 +436,14 @@ impl Rows {
 
     /// Keeps the list of the indexes in `ends`, to which a row leads without a byte, if there is room for it.
     fn keep_ends(&mut self, automaton: &Nfa, row: usize)
+        // The rows are right for the automaton, the row is one of them, and `ends` has its ends without a byte, at least one.
         requires sound { IsSound automaton.now self.old }
         requires row { row < length self.old.starts.items }
         requires ends { HasEnds automaton.now self.old row self.old.ends }
         requires some { (k : ℕ) × (k < half automaton.now + half automaton.now)
             × AcceptsRow automaton.now self.old row [] k }
+
+        // The rows stay right, none is forgotten, and `ends` and `list` do not change.
         ensures sound { IsSound automaton.now self.new }
         ensures kept { KeepsRows self.old self.new }
         ensures ends { self.new.ends ≡ self.old.ends }
@@ -432,10 +462,13 @@ impl Rows {
 
     /// Makes `ends` the indexes of the list that is kept for a row.
     fn load_ends(&mut self, automaton: &Nfa, row: usize, end: u32)
+        // The rows are right for the automaton, the row is one of them, and `end` says where its ends without a byte are listed.
         requires sound { IsSound automaton.now self.old }
         requires row { row < length self.old.starts.items }
         requires known { 1 < end }
         requires end { IsEnd automaton.now self.old row end }
+
+        // The rows stay right, none is forgotten, and `ends` has the row's ends without a byte.
         ensures sound { IsSound automaton.now self.new }
         ensures ends { HasEnds automaton.now self.old row self.new.ends }
         ensures kept { KeepsRows self.old self.new }
@@ -448,16 +481,21 @@ impl Rows {
 
     /// Makes `list` what a row leads to by a byte, and `ends` what it leads to without one. It is at most one visit for each state.
     fn read_row(&mut self, automaton: &Nfa, row: usize, byte: u8, visits: &mut Visits)
+        // The rows are right for the automaton and stay so, none is forgotten, and the row is one of them.
         requires sound { IsSound automaton.now self.old }
         requires row { row < length self.old.starts.items }
         ensures sound { IsSound automaton.now self.new }
         ensures kept { KeepsRows self.old self.new }
+
+        // The list has the states after the byte, at most as many as there are, and `ends` has the ends without a byte.
         ensures steps { (y : List ℕ) (k : ℕ)
             → AcceptsRow automaton.now self.old row (byte ∷ y) k
             ↔ AcceptsIn automaton.now self.new.list.items y k }
         ensures below { AreBelow (size automaton.now) self.new.list.items }
         ensures few { length self.new.list.items ≤ size automaton.now }
         ensures ends { HasEnds automaton.now self.old row self.new.ends }
+
+        // The visits are bounded, and do not become fewer.
         ensures visits { visits.new ≤ visits.old + size automaton.now }
         ensures counted { visits.old ≤ visits.new }
     {
@@ -487,10 +525,13 @@ impl Rows {
 
     /// Writes an entry of a row.
     fn write(&mut self, automaton: &Nfa, row: usize, column: usize, entry: u32)
+        // The rows are right for the automaton, the row and the column are there, and the entry is right for them.
         requires sound { IsSound automaton.now self.old }
         requires row { row < length self.old.starts.items }
         requires column { column ≤ self.old.class_count }
         requires entry { IsEntry automaton.now self.old row column entry }
+
+        // The rows stay right, none is forgotten, and `ends` does not change.
         ensures sound { IsSound automaton.now self.new }
         ensures kept { KeepsRows self.old self.new }
         ensures ends { self.new.ends ≡ self.old.ends }
@@ -502,14 +543,19 @@ impl Rows {
     /// Returns the row of the states in `list`, and makes it if it is not there, which is one visit. If there is no room for it, all
     /// rows are forgotten before.
     fn seek(&mut self, automaton: &Nfa, visits: &mut Visits) -> Found
+        // The rows are right for the automaton, and the list has states alone, at most as many as there are.
         requires sound { IsSound automaton.now self.old }
         requires below { AreBelow (size automaton.now) self.old.list.items }
         requires few { length self.old.list.items ≤ size automaton.now }
+
+        // The rows stay right, and the result is one of them, which leads to the ends that the states in the list lead to.
         ensures sound { IsSound automaton.now self.new }
         ensures row { result.row < length self.new.starts.items }
         ensures states { (y : List ℕ) (k : ℕ)
             → AcceptsIn automaton.now self.old.list.items y k
             ↔ AcceptsRow automaton.now self.new result.row y k }
+
+        // No row is forgotten if the result says so, `ends` does not change, and the look-up is one visit.
         ensures kept { IsTrue result.is_kept → KeepsRows self.old self.new }
         ensures ends { self.new.ends ≡ self.old.ends }
         ensures visits { visits.new ≡ visits.old + 1 }
@@ -561,9 +607,12 @@ impl Rows {
 
     /// Makes room for a row. Returns whether no row was forgotten.
     fn make_room(&mut self, automaton: &Nfa) -> bool
+        // The rows are right for the automaton and stay so, and there is room for another row afterwards.
         requires { IsSound automaton.now self.old }
         ensures sound { IsSound automaton.now self.new }
         ensures space { HasSpace automaton.now self.new }
+
+        // No row is forgotten if the result is `true`, and `list` and `ends` do not change.
         ensures kept { IsTrue result → KeepsRows self.old self.new }
         ensures list { self.new.list ≡ self.old.list }
         ensures ends { self.new.ends ≡ self.old.ends }
@@ -587,10 +636,13 @@ impl Rows {
 
     /// Adds a row of the states in `list`, none of whose entries is known. Returns its number.
     fn add(&mut self, automaton: &Nfa, hash: u64) -> usize
+        // The rows are right for the automaton, with room for one more. The list has states alone, at most as many as there are.
         requires sound { IsSound automaton.now self.old }
         requires space { HasSpace automaton.now self.old }
         requires below { AreBelow (size automaton.now) self.old.list.items }
         requires few { length self.old.list.items ≤ size automaton.now }
+
+        // The rows stay right, none is forgotten, `ends` does not change, and the result is the row of the states in the list.
         ensures sound { IsSound automaton.now self.new }
         ensures row { result < length self.new.starts.items }
         ensures states { states_of self.new result ≡ self.old.list.items }

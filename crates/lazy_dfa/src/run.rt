@@ -51,16 +51,21 @@ impl Rows {
         found: &mut IndexSet,
         visits: &mut Visits,
     )
+        // The rows are right for the automaton, which has early matches. Its indexes are listed, and the set has room for them.
         requires sound { IsSound automaton.now self.old }
         requires room { half automaton.now ≤ index_capacity found.old }
         requires listed { ListsEnds automaton.now indexes.now }
         requires early { (source : NfaValue) × EndsAtEarlyMatches source automaton.now }
+
+        // The rows stay right. The set keeps its capacity, and gets what is found in addition to what it held.
         ensures sound { IsSound automaton.now self.new }
         ensures room { index_capacity found.new ≡ index_capacity found.old }
         ensures found { (k : ℕ)
             → IsTrue (has_index found.new k)
             ↔ (FindsBy (half automaton.now) (IsReached automaton.now) text.now k
             ⊎ IsTrue (has_index found.old k)) }
+
+        // The visits are bounded, and do not become fewer.
         ensures visits { visits.new
             ≤ visits.old + (length text.now + 1) * (size automaton.now + 1) }
         ensures counted { visits.old ≤ visits.new }
@@ -111,15 +116,22 @@ impl Rows {
         found: &mut IndexSet,
         visits: &mut Visits,
     ) -> Option<Left>
+        // The rows are right for the automaton, and there is a row at the place.
         requires sound { IsSound automaton.now self.now }
         requires row { (i : ℕ) × IsAt self.now i place }
+
+        // The indexes of the automaton are listed, and the set has room for them.
         requires room { half automaton.now ≤ index_capacity found.old }
         requires listed { ListsEnds automaton.now indexes.now }
+
+        // The set keeps its capacity and what it held, and of what is found lacks at most what the rest of the text leads to.
         ensures room { index_capacity found.new ≡ index_capacity found.old }
         ensures kept { (k : ℕ) → IsTrue (has_index found.old k) → IsTrue (has_index found.new k) }
         ensures found { (i : ℕ) → IsAt self.now i place
             → MatchOption result (AddsFound automaton.now self.now i text.now found.old found.new)
             (IsLeft automaton.now self.now i text.now found.old self.now found.new) }
+
+        // The visits are bounded, and do not become fewer.
         ensures visits { MatchOption result (visits.new ≤ visits.old + (length text.now + 1))
             (λ left. visits.new ≤ visits.old + left.at) }
         ensures counted { visits.old ≤ visits.new }
@@ -163,11 +175,16 @@ impl Rows {
 
     /// Returns whether a text leads to some end. It stops at the first index that is decided.
     pub fn is_match(&mut self, automaton: &Nfa, text: &[u8], visits: &mut Visits) -> bool
+        // The rows are right for the automaton, which has early matches.
         requires sound { IsSound automaton.now self.old }
         requires early { (source : NfaValue) × EndsAtEarlyMatches source automaton.now }
+
+        // The rows stay right, and the result says whether an index is found in the text.
         ensures sound { IsSound automaton.now self.new }
         ensures some { IsTrue result
             ↔ ((k : ℕ) × FindsBy (half automaton.now) (IsReached automaton.now) text.now k) }
+
+        // The visits are bounded, and do not become fewer.
         ensures visits { visits.new
             ≤ visits.old + (length text.now + 1) * (size automaton.now + 1) }
         ensures counted { visits.old ≤ visits.new }
@@ -210,14 +227,19 @@ impl Rows {
         byte: u8,
         visits: &mut Visits,
     ) -> bool
+        // The rows are right for the automaton, which has early matches, and `live` says of each state whether it is live.
         requires sound { IsSound automaton.now self.old }
         requires early { (source : NfaValue) × EndsAtEarlyMatches source automaton.now }
         requires live { AreLive automaton.now live.now }
         requires room { size automaton.now ≤ state_capacity live.now }
+
+        // The rows stay right, and the result says whether an index is found in some text with this beginning.
         ensures sound { IsSound automaton.now self.new }
         ensures some { IsTrue result
             ↔ ((k : ℕ) × (y : List ℕ) × AllBytes y
             × FindsBy (half automaton.now) (IsReached automaton.now) (text.now ++ byte ∷ y) k) }
+
+        // The visits are bounded, and do not become fewer.
         ensures visits { visits.new
             ≤ visits.old + (length text.now + 2) * (size automaton.now + 1) }
         ensures counted { visits.old ≤ visits.new }
@@ -249,14 +271,19 @@ impl Rows {
         byte: u8,
         visits: &mut Visits,
     ) -> Option<bool>
+        // The rows are right for the automaton, which has early matches, and `live` says of each state whether it is live.
         requires sound { IsSound automaton.now self.now }
         requires early { (source : NfaValue) × EndsAtEarlyMatches source automaton.now }
         requires live { AreLive automaton.now live.now }
         requires room { size automaton.now ≤ state_capacity live.now }
+
+        // A result says whether an index is found in some text with this beginning. Without one no state is read.
         ensures some { IfSome result (λ yes. IsTrue yes
             ↔ ((k : ℕ) × (y : List ℕ) × AllBytes y
             × FindsBy (half automaton.now) (IsReached automaton.now) (text.now ++ byte ∷ y) k)) }
         ensures missed { result ≡ None → visits.new ≤ visits.old + (length text.now + 1) }
+
+        // The visits are bounded, and do not become fewer.
         ensures visits { visits.new
             ≤ visits.old + (length text.now + 1) + size automaton.now }
         ensures counted { visits.old ≤ visits.new }
@@ -282,11 +309,16 @@ impl Rows {
     /// Reads a text from its beginning, up to the first index that is decided. Where rows are forgotten twice, a part of the text is
     /// read by sets of states.
     fn read(&mut self, automaton: &Nfa, text: &[u8], visits: &mut Visits) -> Reached
+        // The rows are right for the automaton, which has a state and early matches.
         requires sound { IsSound automaton.now self.old }
         requires some { 0 < size automaton.now }
         requires early { (source : NfaValue) × EndsAtEarlyMatches source automaton.now }
+
+        // The rows stay right, and the result says where the text leads.
         ensures sound { IsSound automaton.now self.new }
         ensures reached { IsWhere automaton.now self.new text.now result }
+
+        // The visits are bounded, and do not become fewer.
         ensures visits { visits.new
             ≤ visits.old + (length text.now * (size automaton.now + 1) + 1) }
         ensures counted { visits.old ≤ visits.new }

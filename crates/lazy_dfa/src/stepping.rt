@@ -45,13 +45,18 @@ pub fn find(
     found: &mut IndexSet,
     visits: &mut Visits,
 )
+    // The automaton has early matches. The sets of states have room for its states, and `found` has room for its indexes.
     requires early { (source : NfaValue) × EndsAtEarlyMatches source automaton.now }
     requires sets { size automaton.now ≤ min (state_capacity from.old) (state_capacity to.old) }
     requires room { half automaton.now ≤ index_capacity found.old }
+
+    // The two sets keep the room that both have. `found` keeps its capacity, and gets what is found in addition to what it held.
     ensures sets { min (state_capacity from.new) (state_capacity to.new)
         ≡ min (state_capacity from.old) (state_capacity to.old) }
     ensures room { index_capacity found.new ≡ index_capacity found.old }
     ensures found { AddsFoundFrom automaton.now from.old text.now found.old found.new }
+
+    // The visits are bounded, and do not become fewer.
     ensures visits { visits.new ≤ visits.old + (length text.now + 1) * size automaton.now }
     ensures counted { visits.old ≤ visits.new }
 {
@@ -72,16 +77,23 @@ pub fn run(
     found: &mut IndexSet,
     visits: &mut Visits,
 ) -> bool
+    // The automaton has early matches. The sets of states have room for its states, and `found` has room for its indexes.
     requires early { (source : NfaValue) × EndsAtEarlyMatches source automaton.now }
     requires sets { size automaton.now ≤ min (state_capacity from.old) (state_capacity to.old) }
     requires room { half automaton.now ≤ index_capacity found.old }
+
+    // The two sets keep the room that both have, and `found` keeps its capacity.
     ensures sets { min (state_capacity from.new) (state_capacity to.new)
         ≡ min (state_capacity from.old) (state_capacity to.old) }
     ensures room { index_capacity found.new ≡ index_capacity found.old }
+
+    // If the result is `true`, a run can go on from the states in `from`. Otherwise no more bytes change what is found.
     ensures found { IsTrue result
         → IsRunOn automaton.now from.old text.now found.old from.new found.new }
     ensures none { IsFalse result
         → (z : List ℕ) → AddsFoundFrom automaton.now from.old (text.now ++ z) found.old found.new }
+
+    // The visits are bounded, and do not become fewer.
     ensures visits { visits.new ≤ visits.old + length text.now * size automaton.now }
     ensures counted { visits.old ≤ visits.new }
 {
@@ -106,12 +118,17 @@ pub fn is_match(
     to: &mut StateSet,
     visits: &mut Visits,
 ) -> bool
+    // The automaton has early matches, and the sets of states have room for its states.
     requires early { (source : NfaValue) × EndsAtEarlyMatches source automaton.now }
     requires sets { size automaton.now ≤ min (state_capacity from.old) (state_capacity to.old) }
+
+    // The two sets keep the room that both have, and the result says whether an index is found in the text.
     ensures sets { min (state_capacity from.new) (state_capacity to.new)
         ≡ min (state_capacity from.old) (state_capacity to.old) }
     ensures some { IsTrue result
         ↔ ((k : ℕ) × FindsBy (half automaton.now) (AcceptsFrom automaton.now from.old) text.now k) }
+
+    // The visits are bounded, and do not become fewer.
     ensures visits { visits.new ≤ visits.old + (length text.now + 1) * size automaton.now }
     ensures counted { visits.old ≤ visits.new }
 {
@@ -135,16 +152,21 @@ pub fn can_match_after(
     to: &mut StateSet,
     visits: &mut Visits,
 ) -> bool
+    // The automaton has early matches, the sets have room for its states, and `live` says of each whether it is live.
     requires early { (source : NfaValue) × EndsAtEarlyMatches source automaton.now }
     requires sets { size automaton.now ≤ min (state_capacity from.old) (state_capacity to.old) }
     requires live { AreLive automaton.now live.now }
     requires live_room { size automaton.now ≤ state_capacity live.now }
+
+    // The two sets keep the room that both have. The result says whether an index is found in some text with this beginning.
     ensures sets { min (state_capacity from.new) (state_capacity to.new)
         ≡ min (state_capacity from.old) (state_capacity to.old) }
     ensures some { IsTrue result
         ↔ ((k : ℕ) × (y : List ℕ) × AllBytes y
         × FindsBy (half automaton.now) (AcceptsFrom automaton.now from.old)
         (text.now ++ byte ∷ y) k) }
+
+    // The visits are bounded, and do not become fewer.
     ensures visits { visits.new ≤ visits.old + (length text.now + 2) * size automaton.now }
     ensures counted { visits.old ≤ visits.new }
 {
@@ -168,11 +190,16 @@ pub fn read(
     to: &mut StateSet,
     visits: &mut Visits,
 ) -> Led
+    // The automaton has early matches, and the sets of states have room for its states.
     requires early { (source : NfaValue) × EndsAtEarlyMatches source automaton.now }
     requires sets { size automaton.now ≤ min (state_capacity from.old) (state_capacity to.old) }
+
+    // The two sets keep the room that both have, and the result says where the text leads.
     ensures sets { min (state_capacity from.new) (state_capacity to.new)
         ≡ min (state_capacity from.old) (state_capacity to.old) }
     ensures led { IsLed automaton.now from.old from.new text.now result }
+
+    // The visits are bounded, and do not become fewer.
     ensures visits { visits.new ≤ visits.old + length text.now * size automaton.now }
     ensures counted { visits.old ≤ visits.new }
 {
@@ -203,15 +230,22 @@ fn step(
     found: &mut IndexSet,
     visits: &mut Visits,
 )
+    // The automaton has early matches. The sets of states have room for its states, and `found` has room for its indexes.
     requires early { (source : NfaValue) × EndsAtEarlyMatches source automaton.now }
     requires from_capacity { size automaton.now ≤ state_capacity from.old }
     requires to_capacity { size automaton.now ≤ state_capacity to.old }
     requires room { half automaton.now ≤ index_capacity found.old }
+
+    // Each of the sets keeps its capacity.
     ensures from_capacity { state_capacity from.new ≡ state_capacity from.old }
     ensures to_capacity { state_capacity to.new ≡ state_capacity to.old }
     ensures room { index_capacity found.new ≡ index_capacity found.old }
+
+    // `to` has the states after the byte, and `found` gets what ends without a byte tell, of those of an index from `lowest` on.
     ensures steps { IsStepBy automaton.now from.old byte to.new }
     ensures told { AddsTold automaton.now from.old lowest found.old found.new }
+
+    // The visits are bounded, and do not become fewer.
     ensures visits { visits.new ≤ visits.old + size automaton.now }
     ensures counted { visits.old ≤ visits.new }
 {
@@ -233,12 +267,17 @@ fn has_end(
     to: &mut StateSet,
     visits: &mut Visits,
 ) -> bool
+    // Both sets have room for the automaton's states, and keep their capacity.
     requires from_capacity { size automaton.now ≤ state_capacity from.old }
     requires to_capacity { size automaton.now ≤ state_capacity to.old }
     ensures from_capacity { state_capacity from.new ≡ state_capacity from.old }
     ensures to_capacity { state_capacity to.new ≡ state_capacity to.old }
+
+    // The result says whether there is an end of an index from `lowest` on. If not, `to` has the states after the byte.
     ensures steps { IsFalse result → IsStepBy automaton.now from.old byte to.new }
     ensures some { IsTrue result ↔ HasEndFrom automaton.now from.old lowest }
+
+    // The visits are bounded, and do not become fewer.
     ensures visits { visits.new ≤ visits.old + size automaton.now }
     ensures counted { visits.old ≤ visits.new }
 {
@@ -260,11 +299,16 @@ fn next_end(
     to: &mut StateSet,
     visits: &mut Visits,
 ) -> Option<usize>
+    // The limit is at most the number of states, for which both sets have room.
     requires within { limit.old ≤ size automaton.now }
     requires from_capacity { size automaton.now ≤ state_capacity from.old }
     requires to_capacity { size automaton.now ≤ state_capacity to.old }
+
+    // Each of the sets keeps its capacity.
     ensures from_capacity { state_capacity from.new ≡ state_capacity from.old }
     ensures to_capacity { state_capacity to.new ≡ state_capacity to.old }
+
+    // A step is in `to` or below the limit. An end from `lowest` on is the result or below it. Without one the limit is 0.
     ensures steps { (b : ℕ) (y : List ℕ) (k : ℕ) → byte ≡ Some b
         → StepsBelow automaton.now from.old limit.old to.old b y k
         ↔ StepsBelow automaton.now from.new limit.new to.new b y k }
@@ -273,6 +317,8 @@ fn next_end(
         ↔ (EndsBelow automaton.now from.new limit.new i ⊎ (result ≡ Some i)) }
     ensures end { MatchOption result (limit.new ≡ 0)
         (λ i. (limit.new < limit.old) × (lowest ≤ i) × (i < automaton.now.index_count)) }
+
+    // The limit becomes smaller by at least the number of new visits, and the visits do not become fewer.
     ensures visits { visits.new + limit.new ≤ visits.old + limit.old }
     ensures counted { visits.old ≤ visits.new }
 {
@@ -299,11 +345,16 @@ fn take(
     from: &mut StateSet,
     to: &mut StateSet,
 ) -> Option<usize>
+    // The automaton has the state, and both sets have room for its states.
     requires exists { s < size automaton.now }
     requires from_capacity { size automaton.now ≤ state_capacity from.old }
     requires to_capacity { size automaton.now ≤ state_capacity to.old }
+
+    // Each of the sets keeps its capacity.
     ensures from_capacity { state_capacity from.new ≡ state_capacity from.old }
     ensures to_capacity { state_capacity to.new ≡ state_capacity to.old }
+
+    // `from` gets the lower states reached without a byte, and `to` the one after the byte. The result is the index of an end.
     ensures below { GoesBelow s (state automaton.now.states s) }
     ensures from { (t : ℕ)
         → has_state from.new t

@@ -69,11 +69,16 @@ impl Rows {
         found: &mut IndexSet,
         visits: &mut Visits,
     ) -> Option<usize>
+        // The rows are right for the automaton, and there is a row at the place.
         requires sound { IsSound automaton.now self.now }
         requires row { (i : ℕ) × IsAt self.now i place }
+
+        // The set has room for the indexes, and has the indexes of the row's marks if `is_told` says so.
         requires room { half automaton.now ≤ index_capacity found.old }
         requires told { IsTrue is_told
             → (i : ℕ) → IsAt self.now i place → HasTold automaton.now self.now i found.old }
+
+        // The set keeps its capacity. With a result it gets the row's marks, and there is one visit. Without one nothing changes.
         ensures room { index_capacity found.new ≡ index_capacity found.old }
         ensures next { (i : ℕ) → IsAt self.now i place
             → MatchOption result (found.new ≡ found.old)
@@ -95,9 +100,12 @@ impl Rows {
     /// Puts what the row at a place has marks of into a set, if the list of what it leads to without a byte is there. Returns whether
     /// it is.
     fn tell_marks(&self, automaton: &Nfa, place: usize, found: &mut IndexSet) -> bool
+        // The rows are right for the automaton, there is a row at the place, and the set has room for the indexes.
         requires sound { IsSound automaton.now self.now }
         requires row { (i : ℕ) × IsAt self.now i place }
         requires room { half automaton.now ≤ index_capacity found.old }
+
+        // The set keeps its capacity, and gets the row's marks if the result is `true`. Otherwise it does not change.
         ensures room { index_capacity found.new ≡ index_capacity found.old }
         ensures told { (i : ℕ) → IsAt self.now i place → IsTrue result
             → AddsMarks automaton.now self.now i found.old found.new }
@@ -122,14 +130,19 @@ impl Rows {
         found: &mut IndexSet,
         visits: &mut Visits,
     ) -> bool
+        // The rows are right for the automaton, there is a row at the place, and the set has room for the indexes.
         requires sound { IsSound automaton.now self.now }
         requires row { (i : ℕ) × IsAt self.now i place }
         requires room { half automaton.now ≤ index_capacity found.old }
+
+        // The set keeps its capacity, and gets the row's marks if the byte is known to lead to no end. Otherwise nothing changes.
         ensures room { index_capacity found.new ≡ index_capacity found.old }
         ensures dead { (i : ℕ) → IsAt self.now i place → IsTrue result
             → IsDeadBy automaton.now self.now i byte
             × AddsMarks automaton.now self.now i found.old found.new }
         ensures none { IsFalse result → (found.new ≡ found.old) × (visits.new ≡ visits.old) }
+
+        // The visits are bounded, and do not become fewer.
         ensures visits { visits.new ≤ visits.old + 1 }
         ensures counted { visits.old ≤ visits.new }
     {
@@ -205,13 +218,18 @@ impl Rows {
         found: &mut IndexSet,
         visits: &mut Visits,
     ) -> bool
+        // The rows are right for the automaton, there is a row at the place, and the set has room for the indexes.
         requires sound { IsSound automaton.now self.now }
         requires row { (i : ℕ) × IsAt self.now i place }
         requires room { half automaton.now ≤ index_capacity found.old }
+
+        // The set keeps its capacity, and gets what is found at the text's end if that is known. Otherwise nothing changes.
         ensures room { index_capacity found.new ≡ index_capacity found.old }
         ensures found { (i : ℕ) → IsAt self.now i place → IsTrue result
             → AddsFound automaton.now self.now i [] found.old found.new }
         ensures none { IsFalse result → (found.new ≡ found.old) × (visits.new ≡ visits.old) }
+
+        // The visits are bounded, and do not become fewer.
         ensures visits { visits.new ≤ visits.old + 1 }
         ensures counted { visits.old ≤ visits.new }
     {

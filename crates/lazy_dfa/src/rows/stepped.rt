@@ -64,15 +64,22 @@ impl Rows {
         found: &mut IndexSet,
         visits: &mut Visits,
     ) -> Option<Left>
+        // The rows are right for the automaton, and there is a row at the place.
         requires sound { IsSound automaton.now self.old }
         requires row { (i : ℕ) × IsAt self.old i place }
+
+        // The set has room for the indexes of the automaton, which has early matches.
         requires room { half automaton.now ≤ index_capacity found.old }
         requires early { (source : NfaValue) × EndsAtEarlyMatches source automaton.now }
+
+        // The rows stay right. The set keeps its capacity, and of what is found lacks at most what the rest of the text leads to.
         ensures sound { IsSound automaton.now self.new }
         ensures room { index_capacity found.new ≡ index_capacity found.old }
         ensures found { (i : ℕ) → IsAt self.old i place
             → MatchOption result (AddsFound automaton.now self.old i text.now found.old found.new)
             (IsLeft automaton.now self.old i text.now found.old self.new found.new) }
+
+        // The visits are bounded, and do not become fewer.
         ensures visits { MatchOption result
             (visits.new ≤ visits.old + length text.now * (size automaton.now + 1))
             (λ left. visits.new ≤ visits.old + left.at * (size automaton.now + 1)) }
@@ -107,13 +114,18 @@ impl Rows {
         given_up: &mut GivenUp,
         visits: &mut Visits,
     ) -> Result<Reached, Left>
+        // The rows are right for the automaton, which has early matches, and there is a row at the place.
         requires sound { IsSound automaton.now self.old }
         requires row { (i : ℕ) × IsAt self.old i place }
         requires early { (source : NfaValue) × EndsAtEarlyMatches source automaton.now }
+
+        // The rows stay right, and the result says where the text leads, or from where the run goes on.
         ensures sound { IsSound automaton.now self.new }
         ensures reached { (i : ℕ) → IsAt self.old i place → MatchResult result
             (IsWhereBy automaton.now self.new (AcceptsRow automaton.now self.old i) text.now)
             (HasRead automaton.now self.old i text.now self.new) }
+
+        // The visits are bounded, and do not become fewer.
         ensures visits { MatchResult result
             (λ _. visits.new ≤ visits.old + length text.now * (size automaton.now + 1))
             (λ left. visits.new ≤ visits.old + left.at * (size automaton.now + 1)) }
