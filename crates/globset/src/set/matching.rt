@@ -16,6 +16,8 @@ use std::alloc::Global;
 impl GlobSet {
     /// Returns the indexes, ascending, of the globs that match the path. Excluded globs are left out.
     ///
+    /// For many paths use [`Searcher::matches`](crate::Searcher::matches), which neither allocates nor fails.
+    ///
     /// It allocates nothing if the set has no globs.
     pub fn matches<P: AsPath>(&self, alloc: Global, path: P) -> Result<Vec<usize>, Error>
         ensures ok { IfOk result
@@ -38,6 +40,8 @@ impl GlobSet {
 
     /// Returns the indexes, ascending, of the globs that match the candidate's path. Excluded globs are left out.
     ///
+    /// For many paths use [`Searcher::matches`](crate::Searcher::matches), which neither allocates nor fails.
+    ///
     /// It allocates nothing if the set has no globs.
     pub fn matches_candidate(
         &self,
@@ -55,6 +59,8 @@ impl GlobSet {
     }
 
     /// Replaces the vector's items by the indexes that [`GlobSet::matches`] returns. The vector's capacity is reused.
+    ///
+    /// For many paths use [`Searcher::find`](crate::Searcher::find), which neither allocates nor fails.
     ///
     /// ```rust
     /// use globset::{Glob, GlobSet};
@@ -81,6 +87,8 @@ impl GlobSet {
     /// Replaces the vector's items by the indexes that [`GlobSet::matches_candidate`] returns. The vector's capacity is
     /// reused.
     ///
+    /// For many paths use [`Searcher::find`](crate::Searcher::find), which neither allocates nor fails.
+    ///
     /// After an error the vector is empty. It allocates nothing if the set has no globs.
     pub fn matches_candidate_into(
         &self,
@@ -97,6 +105,8 @@ impl GlobSet {
     }
 
     /// Like [`GlobSet::matches_candidate_into`], but also counts the visits.
+    ///
+    /// For many paths use [`Searcher::find_visits`](crate::Searcher::find_visits), which neither allocates nor fails.
     ///
     /// It adds at most `4 + 2 * (path bytes + 1)`. Each glob that needs an automaton for the path adds `path bytes + 1` times `4
     /// * glob bytes + 4` (`16 * glob bytes + 4` under `whole_character`). The bound also holds after an error; a set without
@@ -139,6 +149,8 @@ impl GlobSet {
 
     /// Like [`GlobSet::matches_visits`], but with a scratch: only the vector may grow.
     ///
+    /// For many paths and one set use a [`Searcher`](crate::Searcher), which needs no scratch.
+    ///
     /// The scratch has to fit the set. It then fits each set that it fitted before, after an error too. The bound on the visits
     /// is the same.
     ///
@@ -180,6 +192,8 @@ impl GlobSet {
     /// Returns whether some glob that is not excluded matches the path: whether [`GlobSet::matches`] would return an
     /// index.
     ///
+    /// For many paths use [`Searcher::is_match`](crate::Searcher::is_match), which neither allocates nor fails.
+    ///
     /// To match several sets against a path, or against bytes that are not UTF-8, create a [`Candidate`] and call
     /// [`GlobSet::is_match_candidate`].
     ///
@@ -198,6 +212,8 @@ impl GlobSet {
 
     /// Returns whether some glob that is not excluded matches the candidate's path, as [`GlobSet::is_match`] does.
     ///
+    /// For many paths use [`Searcher::is_match`](crate::Searcher::is_match), which neither allocates nor fails.
+    ///
     /// It allocates nothing if no glob needs an automaton for the path: if each of them is direct, or requires an extension that
     /// the path lacks.
     pub fn is_match_candidate(&self, path: &Candidate<'_>) -> Result<bool, Error>
@@ -212,6 +228,8 @@ impl GlobSet {
     }
 
     /// Like [`GlobSet::is_match_candidate`], but also counts the visits.
+    ///
+    /// For many paths use [`Searcher::is_match_visits`](crate::Searcher::is_match_visits), which neither allocates nor fails.
     ///
     /// It adds at most `4 + 2 * (path bytes + 1)`. Each glob that needs an automaton for the path adds `path bytes + 1` times `4
     /// * glob bytes + 4` (`16 * glob bytes + 4` under `whole_character`). The bound also holds after an error; a set without
@@ -242,6 +260,8 @@ impl GlobSet {
 
     /// Like [`GlobSet::is_match_visits`], but with a scratch: it does not allocate, and cannot fail.
     ///
+    /// For many paths and one set use a [`Searcher`](crate::Searcher), which needs no scratch.
+    ///
     /// The scratch has to fit the set. It then fits each set that it fitted before. The bound on the visits is the same.
     pub fn is_match_with(
         &self,
@@ -269,6 +289,8 @@ impl GlobSet {
     /// Returns whether every glob matches the path and none is excluded: whether [`GlobSet::matches`] would return every
     /// index below [`GlobSet::len`]. It is true if the set has no globs.
     ///
+    /// For many paths use [`Searcher::matches_all`](crate::Searcher::matches_all), which neither allocates nor fails.
+    ///
     /// It allocates nothing if no glob needs an automaton for the path: if each of them is direct, or requires an extension that
     /// the path lacks.
     pub fn matches_all<P: AsPath>(&self, path: P) -> Result<bool, Error>
@@ -286,6 +308,8 @@ impl GlobSet {
 
     /// Returns whether every glob matches the candidate's path and none is excluded, as [`GlobSet::matches_all`] does.
     ///
+    /// For many paths use [`Searcher::matches_all`](crate::Searcher::matches_all), which neither allocates nor fails.
+    ///
     /// It allocates nothing if no glob needs an automaton for the path: if each of them is direct, or requires an extension that
     /// the path lacks.
     pub fn matches_all_candidate(&self, path: &Candidate<'_>) -> Result<bool, Error>
@@ -302,6 +326,8 @@ impl GlobSet {
     }
 
     /// Like [`GlobSet::matches_all_candidate`], but also counts the visits.
+    ///
+    /// For many paths use [`Searcher::matches_all_visits`](crate::Searcher::matches_all_visits), which neither allocates nor fails.
     ///
     /// It adds at most `4 + 2 * (path bytes + 1)`. Each glob that needs an automaton for the path adds `path bytes + 1` times `4
     /// * glob bytes + 4` (`16 * glob bytes + 4` under `whole_character`). The bound also holds after an error; a set without
@@ -343,6 +369,8 @@ impl GlobSet {
     }
 
     /// Like [`GlobSet::matches_all_visits`], but with a scratch: it does not allocate, and cannot fail.
+    ///
+    /// For many paths and one set use a [`Searcher`](crate::Searcher), which needs no scratch.
     ///
     /// The scratch has to fit the set. It then fits each set that it fitted before. The bound on the visits is the same.
     pub fn matches_all_with(
@@ -403,6 +431,8 @@ impl GlobSet {
     /// Returns whether some glob that is not excluded matches some path below the candidate's path, as
     /// [`GlobSet::can_match_below`] does.
     ///
+    /// For many paths use [`Searcher::can_match_below`](crate::Searcher::can_match_below), which neither allocates nor fails.
+    ///
     /// It allocates nothing if each glob is direct.
     pub fn can_match_below_candidate(&self, folder: &Candidate<'_>) -> Result<bool, Error>
         ensures ok { IfOk result
@@ -416,6 +446,9 @@ impl GlobSet {
     }
 
     /// Like [`GlobSet::can_match_below_candidate`], but also counts the visits.
+    ///
+    /// For many paths use [`Searcher::can_match_below_visits`](crate::Searcher::can_match_below_visits), which neither allocates nor
+    /// fails.
     ///
     /// It adds at most `4 + 2 * (directory bytes + 2)`. Each glob that is not direct adds `directory bytes + 2` times
     /// `4 * glob bytes + 4` (`16 * glob bytes + 4` under `whole_character`). The bound also holds after an error; a set without
@@ -454,6 +487,8 @@ impl GlobSet {
     }
 
     /// Like [`GlobSet::can_match_below_visits`], but with a scratch: it does not allocate, and cannot fail.
+    ///
+    /// For many paths and one set use a [`Searcher`](crate::Searcher), which needs no scratch.
     ///
     /// The scratch has to fit the set. It then fits each set that it fitted before. The bound on the visits is the same.
     ///
