@@ -6,7 +6,7 @@ ghost use Rattle.std.specs.Str.{bytes_eq};
 ghost use Rattle.ignore_pattern.specs.declared.item.Item.TheVariants.{Member, Range};
 ghost use Rattle.ignore_pattern.specs.Classes.{class_named, escaped_range_at, hyphen_at, name_at, bracket_at, escape_at, item_at, named_has, item_has};
 
-use crate::ends::before_last;
+use crate::line::before_last;
 
 /// A part of a class.
 #[derive(Clone, Copy, Debug)]

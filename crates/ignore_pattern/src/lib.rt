@@ -59,7 +59,6 @@ mod automaton;
 mod class;
 mod compared;
 mod element;
-mod ends;
 mod item;
 mod line;
 mod pattern;

@@ -1,10 +1,9 @@
-//! The part of a line that its pattern is read from.
+//! The part of a line that its pattern is read from, and bytes without their last.
 
-ghost use Rattle.std.specs.Prelude.{◌≡◌, ◌≤◌, ◌==◌, not, drop, length, if◌then◌else◌};
+ghost use Rattle.std.specs.Prelude.{◌≡◌, ◌≤◌, ◌==◌, not, drop, length, if◌then◌else◌, true, false, IfNone, IfSome};
 ghost use Rattle.std.specs.List.{prefix_len};
+ghost use Rattle.ignore_pattern.specs.Ends.{ends_with, without_last};
 ghost use Rattle.ignore_pattern.specs.Lines.{line_text, before_nul, without_spaces};
-
-use crate::ends::without_last;
 
 /// Returns the text of a line: the line without a carriage return at its end, up to its first NUL, and without the spaces
 /// at its end. A space after a `\` that escapes it stays.
@@ -19,6 +18,25 @@ pub fn line_text(line: &[u8]) -> &[u8]
     ensures { result.now ≡ line_text line.now }
 {
     without_spaces(before_nul(without_last(b'\r', line)))
+}
+
+/// Returns the bytes without the last, if that is `byte`.
+fn without_last(byte: u8, bytes: &[u8]) -> &[u8]
+    ensures { result.now ≡ without_last byte bytes.now }
+{
+    before_last(byte, bytes).unwrap_or(bytes)
+}
+
+/// Returns the bytes before the last, if that is `c`.
+pub fn before_last(c: u8, cs: &[u8]) -> Option<&[u8]>
+    ensures some { IfSome result
+        (λ front. (ends_with c cs.now ≡ true) × (front.now ≡ without_last c cs.now)) }
+    ensures none { IfNone result ((ends_with c cs.now ≡ false) × (without_last c cs.now ≡ cs.now)) }
+{
+    match cs {
+        [] => None,
+        [front @ .., last] => { if c == *last { Some(front) } else { None } }
+    }
 }
 
 /// Returns the bytes before the first NUL.

@@ -6,7 +6,7 @@ ghost use Rattle.ignore_pattern.specs.Patterns.{has_slash, pattern_with, pattern
 ghost use Rattle.ignore_pattern.specs.declared.place.Place.TheVariants.{Start};
 
 use crate::element::read_elements;
-use crate::ends::before_last;
+use crate::line::before_last;
 use crate::pattern::IgnorePattern;
 use std::alloc::{AllocError, Global};
 
