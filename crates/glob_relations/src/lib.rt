@@ -21,7 +21,6 @@ mod compared;
 mod domain;
 mod finding;
 mod ignoring;
-mod indexes;
 pub mod laws;
 mod leading;
 mod pass;

@@ -1,6 +1,6 @@
 //! Globs of a list that never decide; and the search by which items, globs or patterns of ignore files, are found that never do.
 
-ghost use Rattle.std.specs.Prelude.{◌≡◌, ℕ, ◌+◌, ◌-◌, ◌<◌, ◌≤◌, ◌∷◌, [], length, Contains, slice_get, Some, IfOk, IsFalse, IsTrue, IsOkUnless, MatchOption, ◌↔◌};
+ghost use Rattle.std.specs.Prelude.{◌≡◌, ℕ, ◌+◌, ◌-◌, ◌<◌, ◌≤◌, ◌∷◌, ◌++◌, [], length, take, drop, Contains, slice_get, Some, IfOk, IsFalse, IsTrue, IsOkUnless, MatchOption, ◌↔◌};
 ghost use Rattle.std.specs.List.{range_with_len};
 ghost use Rattle.bit_sets.specs.Indexes.{has_index};
 ghost use Rattle.glob_text.specs.Errors.{out_of_memory};
@@ -14,7 +14,6 @@ ghost use Rattle.glob_relations.specs.inner.Automata.{FindsEach};
 use crate::compared::{Compared, automaton_of_list, builder_at};
 use crate::domain::Domain;
 use crate::finding::{found_indexes, place_of_found};
-use crate::indexes::without;
 use crate::relations::{Coverage, coverage_of};
 use crate::search::search;
 use bit_sets::IndexSet;
@@ -295,6 +294,20 @@ fn least_cover<T: Compared>(
         }
     }
     Ok(Reachability::Never(set))
+}
+
+/// Returns the numbers of a list, without the number at a place.
+fn without(alloc: Global, list: &[usize], place: usize) -> Result<Vec<usize>, AllocError>
+    requires { place < length list.now }
+    ensures { IfOk result
+        (λ rest. rest.items ≡ take place list.now ++ drop (place + 1) list.now) }
+{
+    let before = &list[..place];
+    let after = &list[place + 1..];
+    let mut rest = Vec::new(alloc);
+    rest.extend_from_slice(before)?;
+    rest.extend_from_slice(after)?;
+    Ok(rest)
 }
 
 /// Returns whether each path of a domain that an item matches is matched by some of the items of a list at these indexes.
