@@ -2,8 +2,8 @@
 use Rattle.std.specs.Prelude.{◌≡◌, ℕ, List, Bool, Option, Ok}
 use Rattle.globsift.specs.Command.{CommandValue, IsFaultOf, command_of}
 use Rattle.globsift.specs.Output.{SiftSucceeds, SiftFails}
-use Rattle.globsift.specs.declared.fault.Fault.{Fault}
-use Rattle.globsift.specs.declared.fault.Fault.TheVariants.{Command, Sift}
+use Rattle.globsift.specs.declared.program.Fault.{Fault}
+use Rattle.globsift.specs.declared.program.Fault.TheVariants.{Command, Sift}
 
 -- On success: the arguments are a command, the lines that its set matches were written, and `any` says whether there was any.
 abbrev pub Succeeds : List (List ℕ) → Option (List ℕ) → Option (List ℕ) → Option (List ℕ) → Option (List ℕ) → Bool → Type 0

@@ -3,8 +3,8 @@ use Rattle.std.specs.Prelude.{ℕ, List, ◌++◌, codes}
 use Rattle.globset.specs.Errors.{error_text}
 use Rattle.globset.specs.ValueErrors.{value_error_text}
 use Rattle.globsift.specs.Command.{fault_value, FaultValue, unknown_option, no_glob, set_without_text, set_not_alone, not_json, glob_error, value_error}
-use Rattle.globsift.specs.declared.fault.Fault.{Fault}
-use Rattle.globsift.specs.declared.fault.Fault.TheVariants.{Command, Sift}
+use Rattle.globsift.specs.declared.program.Fault.{Fault}
+use Rattle.globsift.specs.declared.program.Fault.TheVariants.{Command, Sift}
 use Rattle.globsift.specs.declared.sifting.fault.SiftFault.{SiftFault}
 use Rattle.globsift.specs.declared.sifting.fault.SiftFault.TheVariants.{Read, Write, OutOfMemory}
 

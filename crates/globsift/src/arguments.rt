@@ -1,21 +1,19 @@
 //! From the arguments of a command line to a command.
 
-ghost use Rattle.std.specs.Prelude.{◌≡◌, map, IfErr, IfOk, Ok, string_bytes};
-ghost use Rattle.globsift.specs.Command.{IsFaultOf, command_of, command_value};
+ghost use Rattle.std.specs.Prelude.{◌≡◌, map, IfErr, IfOk, MatchResult, Ok, string_bytes};
+ghost use Rattle.std.specs.Option.{option_map};
+ghost use Rattle.globsift.specs.Command.{IsFaultOf, command_of, command_of_globs, command_value, split_at_set};
 
 pub mod fault;
 mod flags;
 mod glob_arguments;
-mod globs;
 mod json;
 pub mod parsed;
-mod split;
 
 use fault::CommandFault;
-use globs::command_of_globs;
+use glob_arguments::GlobArguments;
 use json::command_of_set;
 use parsed::Command;
-use split::split_at_set;
 use std::alloc::Global;
 
 /// Parses the arguments of a command line, without the program's name.
@@ -38,4 +36,37 @@ pub fn command(alloc: Global, arguments: &[String]) -> Result<Command, CommandFa
         Some((before, after)) => command_of_set(alloc, before, after),
         None => command_of_globs(alloc, arguments),
     }
+}
+
+/// Returns the arguments before the first `--set` and the arguments after it. `None` if there is none or a `--` comes before it.
+fn split_at_set(arguments: &[String]) -> Option<(&[String], &[String])>
+    ensures { option_map (λ p. (map string_bytes p.0.now, map string_bytes p.1.now)) result
+        ≡ split_at_set (map string_bytes arguments.now) }
+{
+    for (index, argument) in arguments.iter().enumerate() {
+        if argument.as_str() == "--" {
+            return None;
+        }
+        if argument.as_str() == "--set" {
+            return Some((&arguments[..index], &arguments[index + 1..]));
+        }
+    }
+    None
+}
+
+/// Parses the arguments of a command line that has no `--set`.
+fn command_of_globs(alloc: Global, arguments: &[String]) -> Result<Command, CommandFault>
+    ensures { MatchResult result
+        (λ command. command_of_globs (map string_bytes arguments.now) ≡ Ok (command_value command))
+        (IsFaultOf (command_of_globs (map string_bytes arguments.now))) }
+{
+    let GlobArguments { flags, globs } = GlobArguments::parse(alloc, arguments)?;
+    let set = globs.into_set()?;
+    if set.is_empty() {
+        return Err(CommandFault::NoGlob);
+    }
+    Ok(Command {
+        set,
+        numbered: flags.numbered,
+    })
 }

@@ -1,12 +1,14 @@
-//! A command line, parsed and executed.
+//! A command line, parsed and executed, and why that stops.
 
 ghost use Rattle.std.specs.Prelude.{map, IfErr, IfOk, string_bytes};
 ghost use Rattle.globsift.specs.Program.{Succeeds, Fails};
 
 use crate::arguments::command;
-use crate::fault::Fault;
+use crate::arguments::fault::CommandFault;
+use crate::sifting::fault::SiftFault;
 use crate::sifting::sift;
 use std::alloc::Global;
+use std::fmt;
 use std::io::{Read, Write};
 
 /// Executes the arguments of a command line on the reader's input, and returns whether any line was written.
@@ -26,4 +28,51 @@ pub fn write_matching_lines<R: Read, W: Write>(
 {
     let command = command(alloc, arguments)?;
     Ok(sift(alloc, &command.set, command.numbered, reader, writer)?)
+}
+
+/// The error of [`write_matching_lines`].
+#[derive(Debug, Drop)]
+pub enum Fault {
+    /// The command-line arguments are rejected.
+    Command(CommandFault),
+    /// [`sift`] stopped before the end.
+    Sift(SiftFault),
+}
+
+impl fmt::Display for Fault {
+    ghost use Rattle.std.specs.Prelude.{Some};
+    ghost use Rattle.globsift.specs.Texts.{fault_text};
+
+    ghost output = { λ fault. Some (fault_text fault) };
+
+    fn fmt<W: fmt::Write>(&self, f: &mut fmt::Formatter<W>) -> fmt::Result {
+        match self {
+            Fault::Command(fault) => fault.fmt(f),
+            Fault::Sift(fault) => fault.fmt(f),
+        }
+    }
+}
+
+impl std::error::Error for Fault {}
+
+impl From<CommandFault> for Fault {
+    ghost use Rattle.std.specs.Prelude.{◌≡◌};
+    ghost use Rattle.globsift.specs.declared.program.Fault.TheVariants.{Command};
+
+    ghost from_gives = { λ cause fault. fault ≡ Command cause };
+
+    fn from(cause: CommandFault) -> Fault {
+        Fault::Command(cause)
+    }
+}
+
+impl From<SiftFault> for Fault {
+    ghost use Rattle.std.specs.Prelude.{◌≡◌};
+    ghost use Rattle.globsift.specs.declared.program.Fault.TheVariants.{Sift};
+
+    ghost from_gives = { λ cause fault. fault ≡ Sift cause };
+
+    fn from(cause: SiftFault) -> Fault {
+        Fault::Sift(cause)
+    }
 }

@@ -5,17 +5,15 @@ ghost use Rattle.globset.specs.SetValue.{set_globs};
 ghost use Rattle.globsift.specs.Output.{SiftSucceeds, SiftFails};
 
 pub mod fault;
-mod index_text;
 mod output;
 mod sifter;
-mod writing;
 
 use fault::SiftFault;
 use globset::GlobSet;
+use output::write_pending;
 use sifter::Sifter;
 use std::alloc::{AllocError, Global};
 use std::io::{Read, Write};
-use writing::write_pending;
 
 /// The number of bytes that are read at once.
 const CHUNK: usize = 65536;

@@ -1,12 +1,13 @@
-//! The output for lines, collected in a buffer.
+//! The output for lines, collected in a buffer, and how it is written.
 
-ghost use Rattle.std.specs.Prelude.{◌≡◌, [], false, IfOk, OnOk};
+ghost use Rattle.std.specs.Prelude.{◌≡◌, ◌++◌, [], false, IfOk, MatchResult, OnOk};
+ghost use Rattle.globsift.specs.Output.{index_text};
 ghost use Rattle.globsift.specs.inner.Outputs.{AreEquivalent, HandlesBytes, HandlesLine, PushesColumn, any_with_line, with_line};
+ghost use Rattle.globsift.specs.inner.Sifting.{FailsMidway, WritesAllBut, WritesPrefix};
 
 use super::fault::SiftFault;
-use super::index_text::push_index_text;
-use super::writing::write_pending;
 use globset::{Candidate, GlobSet, Searcher};
+use itoa::Buffer;
 use memchr::memchr;
 use std::alloc::{AllocError, Global};
 use std::io::Write;
@@ -129,5 +130,49 @@ fn searcher_of(alloc: Global, set: &GlobSet) -> Result<Searcher, AllocError>
     match Searcher::new(alloc, set) {
         Ok(searcher) => Ok(searcher),
         Err(_) => Err(AllocError),
+    }
+}
+
+/// Appends the indexes in decimal, separated by `,`, and a tab.
+fn push_index_text(output: &mut Vec<u8>, indexes: &[usize]) -> Result<(), AllocError>
+    ensures { OnOk result (output.new.items ≡ output.old.items ++ index_text indexes.now) }
+{
+    let mut digits = Buffer::new();
+    for (i, index) in indexes.iter().enumerate() {
+        if i > 0 {
+            output.push(b',')?;
+        }
+        output.extend_from_slice(digits.format(*index).as_bytes())?;
+    }
+    output.push(b'\t')?;
+    Ok(())
+}
+
+/// Writes all of the bytes. Returns false if the writer fails, after a prefix of them.
+fn write_prefix<W: Write>(bytes: &[u8], writer: &mut W) -> bool
+    ensures { WritesPrefix (W.contents writer.old) (W.contents writer.new) bytes.now result }
+{
+    let mut rest = bytes;
+    while !rest.is_empty() {
+        match writer.write(rest) {
+            Ok(0) | Err(_) => return false,
+            Ok(n) => rest = &rest[n..],
+        }
+    }
+    true
+}
+
+/// Writes all of the pending bytes and clears the vector. After an error a prefix of them was written.
+pub fn write_pending<W: Write>(pending: &mut Vec<u8>, writer: &mut W) -> Result<(), SiftFault>
+    ensures { MatchResult result
+        (λ _. WritesAllBut (W.contents writer.old) (W.contents writer.new)
+        pending.new.items pending.old.items × (pending.new.items ≡ []))
+        (FailsMidway (W.contents writer.old) (W.contents writer.new) pending.old.items) }
+{
+    if write_prefix(pending.as_slice(), writer) {
+        pending.clear();
+        Ok(())
+    } else {
+        Err(SiftFault::Write)
     }
 }

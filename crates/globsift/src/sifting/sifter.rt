@@ -6,8 +6,7 @@ ghost use Rattle.globsift.specs.Lines.{is_lf};
 ghost use Rattle.globsift.specs.inner.Outputs.{AreEquivalent, HandlesAll, HandlesBytes, WritesAll};
 
 use super::fault::SiftFault;
-use super::output::Output;
-use super::writing::write_pending;
+use super::output::{Output, write_pending};
 use globset::GlobSet;
 use memchr::memchr;
 use std::alloc::{AllocError, Global};

@@ -1,6 +1,6 @@
 use Rattle.std.proofs.Common.{◌≡◌, ◌++◌, List, ℕ, length}
 use Rattle.std.specs.Io.KnownBytes.{Appends}
-use Rattle.globsift.proofs.sifting.writing.write_prefix.Given as goal
+use Rattle.globsift.proofs.sifting.output.write_prefix.Given as goal
 
 abbrev pub invariant-loop-rest : goal.invariant-loop-rest
 invariant-loop-rest g l = (done : List ℕ) × (done ++ l.rest ≡ l.bytes) × Appends (g.W.Write.contents l.initial.writer) (g.W.Write.contents l.writer) done

@@ -1,8 +1,8 @@
 use Rattle.std.proofs.Common.{◌≡◌, ℕ, List, ◌++◌, ap, refl, decimal, get_or, ◌∙◌, arith}
 use Rattle.std.proofs.lemmas.Grind.{common_steps}
 use Rattle.globsift.proofs.lemmas.IndexText.{joined_step}
-use Rattle.globsift.proofs.sifting.index_text.push_index_text.Goals as goal
-use Rattle.globsift.proofs.sifting.index_text.push_index_text.Goals.{then-i-gt0+in_ok-push, else-i-gt0}
+use Rattle.globsift.proofs.sifting.output.push_index_text.Goals as goal
+use Rattle.globsift.proofs.sifting.output.push_index_text.Goals.{then-i-gt0+in_ok-push, else-i-gt0}
 
 pub loop-i-preserved : goal.loop-i-preserved
 loop-i-preserved c =

@@ -1,7 +1,7 @@
 use Rattle.std.proofs.Common.{arith, ◌++◌, take}
 use Rattle.std.proofs.lemmas.Grind.{common_steps}
 use Rattle.std.proofs.KnownBytes.{Appends-trans}
-use Rattle.globsift.proofs.sifting.writing.write_prefix.Goals as goal
+use Rattle.globsift.proofs.sifting.output.write_prefix.Goals as goal
 
 pub loop-rest-preserved : goal.loop-rest-preserved
 loop-rest-preserved g c =
