@@ -8,20 +8,18 @@
 
 mod findings;
 mod ignoring;
-mod overlaps;
+mod relations;
 mod rules;
-mod unused;
 
-use crate::command::{Command, asks_for_help};
-use crate::fault::Fault;
+use crate::command::{Command, Fault, asks_for_help};
 use crate::streams::print_text;
 use crate::text_file::TextFile;
 use findings::Findings;
 use glob_relations::{Domain, unreachable_rules};
 use ignoring::{IgnoreRules, is_ignore_file};
+use relations::uses;
 use rules::Rules;
 use std::process::ExitCode;
-use unused::uses;
 
 pub const COMMAND: Command = Command {
     name: "check",

@@ -7,12 +7,10 @@
 //! [Mm]akefile, *.mk`. Blank lines, and those that begin with `#`, are skipped. A path has a type if any glob of the type matches
 //! the last component of the path. `{c,h}` has no space, so it is a single glob.
 
-use crate::command::{Command, asks_for_help};
-use crate::fault::Fault;
+use crate::command::{Command, Fault, asks_for_help};
 use crate::labels::Labels;
-use crate::lines::Lines;
 use crate::streams::{Output, print_text, read_input};
-use crate::text_file::TextFile;
+use crate::text_file::{Lines, TextFile};
 use globset::{Candidate, Error, Glob};
 use std::alloc::{AllocError, Global};
 use std::process::ExitCode;

@@ -8,8 +8,7 @@ mod globs;
 mod ignored;
 mod walk;
 
-use crate::command::Command;
-use crate::fault::Fault;
+use crate::command::{Command, Fault};
 use crate::streams::print_text;
 use crate::text_file::TextFile;
 use arguments::Arguments;

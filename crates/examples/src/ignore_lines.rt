@@ -6,13 +6,11 @@
 //! With `-v` it prints for each path the file and the line that decide about it, as `git check-ignore -v -n` does. There may
 //! then be several ignore files, each for its own directory.
 
-mod walk;
+pub mod walk;
 
-use crate::command::{Command, asks_for_help};
-use crate::fault::Fault;
-use crate::lines::Lines;
+use crate::command::{Command, Fault, asks_for_help};
 use crate::streams::{Output, print_text, read_input};
-use crate::text_file::TextFile;
+use crate::text_file::{Lines, TextFile};
 use std::process::ExitCode;
 use walk::Walk;
 

@@ -14,21 +14,16 @@
 
 mod check;
 mod command;
-mod fault;
 mod file_types;
 mod find_files;
-mod folders;
 mod ignore_lines;
 mod labels;
-mod lines;
 mod owner_rule;
 mod owners;
-mod shown;
 mod streams;
 mod text_file;
 
-use command::Command;
-use fault::Fault;
+use command::{Command, Fault};
 use std::env;
 use std::process::ExitCode;
 use streams::print_text;

@@ -3,13 +3,11 @@
 //! The argument names the owners file. Each line of standard input is the path of a file, from the root. It is printed with a
 //! tab and its owners, or `-` if it has none.
 
-use crate::command::{Command, asks_for_help};
-use crate::fault::Fault;
+use crate::command::{Command, Fault, asks_for_help};
 use crate::labels::Labels;
-use crate::lines::Lines;
 use crate::owner_rule::OwnerRule;
 use crate::streams::{Output, print_text, read_input};
-use crate::text_file::TextFile;
+use crate::text_file::{Lines, TextFile};
 use globset::{Candidate, Error};
 use std::alloc::Global;
 use std::process::ExitCode;

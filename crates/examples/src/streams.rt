@@ -1,6 +1,6 @@
 //! The standard input and output of a command.
 
-use crate::fault::Fault;
+use crate::command::Fault;
 use std::alloc::{AllocError, Global};
 use std::io::{self, Read, Write};
 use std::process::ExitCode;

@@ -1,9 +1,10 @@
-//! A file whose lines a program reads.
+//! A file whose lines a program reads, and the lines of bytes.
 
-use crate::fault::Fault;
-use crate::lines::Lines;
-use crate::shown::Shown;
-use memchr::memrchr;
+ghost use Rattle.std.specs.Prelude.{length};
+ghost use Rattle.std.specs.Iterator.{at_most};
+
+use crate::command::{Fault, Shown};
+use memchr::{memchr, memrchr};
 use std::alloc::Global;
 use std::fmt::Display;
 use std::{fs, str};
@@ -82,5 +83,36 @@ impl TextFile {
         let file = Shown(self.name.as_bytes());
         let (text, reason) = (Shown(text), Shown(reason.as_bytes()));
         Fault::text(format!(in alloc; "{file}: line {number}: {text}: {reason}"))
+    }
+}
+
+/// An iterator over lines without the byte that ends them, mostly LF. A rest after the last such byte is a line too, unless it is
+/// empty.
+#[derive(Drop)]
+pub struct Lines<'a> {
+    rest: &'a [u8],
+    end: u8,
+}
+
+impl<'a> Lines<'a> {
+    /// Returns the lines of these bytes, ended by this byte.
+    pub fn new(bytes: &'a [u8], end: u8) -> Lines<'a> {
+        Lines { rest: bytes, end }
+    }
+}
+
+impl<'a> Iterator for Lines<'a> {
+    type Item = &'a [u8];
+
+    ghost remaining = { λ it. at_most (length it.rest.now) };
+
+    fn next(&mut self) -> Option<&'a [u8]> {
+        let rest = self.rest;
+        if rest.is_empty() {
+            return None;
+        }
+        let end = memchr(self.end, rest).unwrap_or(rest.len());
+        self.rest = rest.get(end + 1..).unwrap_or(&[]);
+        Some(&rest[..end])
     }
 }

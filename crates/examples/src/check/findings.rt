@@ -1,9 +1,8 @@
 //! What is found about the rules of a file, a line each.
 
-use super::overlaps::common;
+use super::relations::common;
 use super::rules::Rules;
-use crate::fault::Fault;
-use crate::shown::Shown;
+use crate::command::{Fault, Shown};
 use crate::streams::Output;
 use crate::text_file::TextFile;
 use glob_relations::{Intersection, RuleReachability};

@@ -1,8 +1,7 @@
 //! The rules of an ignore file.
 
 use super::findings::RuleLine;
-use crate::lines::Lines;
-use crate::text_file::TextFile;
+use crate::text_file::{Lines, TextFile};
 use git_ignore::{RulePatterns, rule_patterns};
 use ignore_pattern::IgnorePattern;
 use std::alloc::{AllocError, Global};

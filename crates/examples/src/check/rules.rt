@@ -1,10 +1,8 @@
 //! The rules of an owners file, with their globs.
 
 use super::findings::RuleLine;
-use crate::command::Command;
-use crate::fault::Fault;
+use crate::command::{Command, Fault, Shown};
 use crate::owner_rule::OwnerRule;
-use crate::shown::Shown;
 use crate::text_file::TextFile;
 use globset::{Error, Glob};
 use std::alloc::{AllocError, Global};

@@ -1,6 +1,6 @@
 //! The parsed arguments.
 
-use crate::fault::Fault;
+use crate::command::Fault;
 use std::alloc::Global;
 
 /// The options that have no argument.

@@ -1,7 +1,7 @@
 //! The globs of a search: which paths match, and which directories can contain a match.
 
 use super::arguments::{Arguments, Flags};
-use crate::fault::Fault;
+use crate::command::Fault;
 use crate::text_file::TextFile;
 use globset::{Candidate, Error, Glob, GlobBuilder, GlobSetBuilder, Searcher};
 use std::alloc::Global;

@@ -1,7 +1,7 @@
 //! What ignore files leave out of a walk.
 
-use crate::fault::Fault;
-use crate::folders::go_up;
+use crate::command::Fault;
+use crate::ignore_lines::walk::go_up;
 use git_ignore::IgnoreStack;
 use std::alloc::{AllocError, Global};
 use std::fs::{self, FileType};

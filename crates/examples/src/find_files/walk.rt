@@ -10,7 +10,7 @@ use super::COMMAND;
 use super::arguments::Flags;
 use super::globs::Wanted;
 use super::ignored::Ignored;
-use crate::fault::Fault;
+use crate::command::Fault;
 use globset::Searcher;
 use std::alloc::{AllocError, Global};
 use std::fs::{self, DirEntry, FileType, ReadDir};
