@@ -334,8 +334,8 @@ def ask_large(file, source, globs, kind, paths, make=large.path_for):
 PLAIN, SEPARATOR = [DEFAULTS], [DEFAULTS._replace(literal_separator=True)]
 CASE, EMPTY = [DEFAULTS._replace(case_insensitive=True)], [DEFAULTS._replace(empty_alternates=True)]
 DECIDED = {
-    "key WholePath": [(["src/D/f#.rs", "D/n#/", "/D/n#", "n#", "D/n#//D"], PLAIN + SEPARATOR)],
-    "key Basename": [(["**/n#"], PLAIN + SEPARATOR)],
+    "key Literal": [(["src/D/f#.rs", "D/n#/", "/D/n#", "n#", "D/n#//D"], PLAIN + SEPARATOR)],
+    "key BasenameLiteral": [(["**/n#"], PLAIN + SEPARATOR)],
     "key ComponentSuffix": [(["**/D/n#", "**/n#/"], PLAIN + SEPARATOR)],
     "key Extension": [(["*.e#"], PLAIN), (["**/*.e#"], PLAIN + SEPARATOR)],
     "key Suffix": [(["*_n#", "*/D/n#", "**/*n#/"], PLAIN)],
@@ -343,8 +343,8 @@ DECIDED = {
     "strategy RequiredExtension": [
         (["D/*.e#", "*n#/?.rs", "[dn]#/**/*.rs", "D/n#/**/x*.e#"], PLAIN + SEPARATOR), (["*.e#", "D*.e#"], SEPARATOR),
     ],
-    "strategy Basename": [(["**/n#?[ab]*", "**/[ab]n#*"], SEPARATOR)],
-    "strategy Path": [
+    "strategy BasenameRegex": [(["**/n#?[ab]*", "**/[ab]n#*"], SEPARATOR)],
+    "strategy Regex": [
         (
             ["D/?/[a-c]", "{D,b#,{{c,}}d}/x*", "D/**/n#?", "*/[!n]#/?", "?#{/**,}", "{n#/,}D/{**/b,c}"],
             PLAIN + SEPARATOR + CASE + EMPTY,
@@ -355,7 +355,7 @@ DECIDED = {
     "strategy Excluded": [(["**/..", "**/**/..", "**/\\.."], PLAIN + SEPARATOR)],
 }
 # Those by which each glob matches some path below every folder.
-DECIDED_FOR_ALL_FOLDERS = ["key Basename", "key ComponentSuffix", "key Extension", "key Suffix", "strategy Basename"]
+DECIDED_FOR_ALL_FOLDERS = ["key BasenameLiteral", "key ComponentSuffix", "key Extension", "key Suffix", "strategy BasenameRegex"]
 SELECTIVE = [name for name in DECIDED if name not in DECIDED_FOR_ALL_FOLDERS]
 
 
@@ -368,7 +368,7 @@ def many_folders(counts, source):
         for size in [1, 1, 2, 2, 2, 3, 3, 4, 5, 7, 9, 12]:
             ask_folders_of_set(file, source, globs_decided_by(source, names, size), what, 10)
     for size in [64, 65, 100, 300]:
-        for names in [["key WholePath"], ["key Prefix"], ["strategy RequiredExtension"], ["strategy Path"], SELECTIVE]:
+        for names in [["key Literal"], ["key Prefix"], ["strategy RequiredExtension"], ["strategy Regex"], SELECTIVE]:
             globs = [glob for glob in globs_decided_by(source, names, 2 * size) if is_selective(glob)][:size]
             ask_folders_of_set(file, source, globs, "of many globs that match below some folders", 8, as_array=True)
     for make in (making.hard_glob, realistic_glob):

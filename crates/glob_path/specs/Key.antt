@@ -8,9 +8,9 @@ use Rattle.glob_path.specs.declared.key.Key.TheVariants as held
 -- A key is bytes, with the part of a path that they are compared with.
 pub data KeyValue : Type 0 where
   -- the path
-  WholePath : List ℕ → KeyValue
+  Literal : List ℕ → KeyValue
   -- the path's last component
-  Basename : List ℕ → KeyValue
+  BasenameLiteral : List ℕ → KeyValue
   -- the extension of the path's last component
   Extension : List ℕ → KeyValue
   -- the last components of the path, of the number that the key has
@@ -22,8 +22,8 @@ pub data KeyValue : Type 0 where
 
 -- a key of the program
 abbrev pub key_seen : Key → KeyValue
-key_seen (held.WholePath bytes) = WholePath bytes.items
-key_seen (held.Basename bytes) = Basename bytes.items
+key_seen (held.Literal bytes) = Literal bytes.items
+key_seen (held.BasenameLiteral bytes) = BasenameLiteral bytes.items
 key_seen (held.Extension bytes) = Extension bytes.items
 key_seen (held.ComponentSuffix bytes) = ComponentSuffix bytes.items
 key_seen (held.Suffix bytes) = Suffix bytes.items
@@ -31,8 +31,8 @@ key_seen (held.Prefix bytes) = Prefix bytes.items
 
 -- the bytes of a key
 abbrev pub key_bytes : KeyValue → List ℕ
-key_bytes (WholePath bytes) = bytes
-key_bytes (Basename bytes) = bytes
+key_bytes (Literal bytes) = bytes
+key_bytes (BasenameLiteral bytes) = bytes
 key_bytes (Extension bytes) = bytes
 key_bytes (ComponentSuffix bytes) = bytes
 key_bytes (Suffix bytes) = bytes
@@ -41,9 +41,9 @@ key_bytes (Prefix bytes) = bytes
 -- The key matches the path.
 abbrev pub KeyMatches : KeyValue → List ℕ → Type 0
 -- the path is the key
-KeyMatches (WholePath bytes) path = path ≡ bytes
+KeyMatches (Literal bytes) path = path ≡ bytes
 -- the path's last component is the key, also if it is `..`
-KeyMatches (Basename bytes) path = last_component path ≡ bytes
+KeyMatches (BasenameLiteral bytes) path = last_component path ≡ bytes
 -- the key is the extension of the path's last component
 KeyMatches (Extension bytes) path = component_extension path ≡ bytes
 -- the path is the key, or ends with `/` and the key
@@ -54,11 +54,11 @@ KeyMatches (Suffix bytes) path = (front : List ℕ) × (front ++ bytes ≡ path)
 KeyMatches (Prefix bytes) path = (rest : List ℕ) × (bytes ++ rest ≡ path)
 
 -- Some path below the folder may match the key. A path below a folder may have any last component, any extension and any end, so
--- the folder excludes only keys that are a whole path or the beginning of a path.
+-- the folder excludes only keys that are a path or the beginning of a path.
 abbrev pub KeyMayMatchBelow : KeyValue → List ℕ → Type 0
 -- the key is below the folder
-KeyMayMatchBelow (WholePath bytes) folder = BeginsWith bytes (folder_start folder)
-KeyMayMatchBelow (Basename bytes) folder = ⊤
+KeyMayMatchBelow (Literal bytes) folder = BeginsWith bytes (folder_start folder)
+KeyMayMatchBelow (BasenameLiteral bytes) folder = ⊤
 KeyMayMatchBelow (Extension bytes) folder = ⊤
 KeyMayMatchBelow (ComponentSuffix bytes) folder = ⊤
 KeyMayMatchBelow (Suffix bytes) folder = ⊤

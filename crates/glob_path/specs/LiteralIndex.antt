@@ -63,8 +63,8 @@ with_components t key n = with_end (with_path t key n) (after_separator key) n
 
 -- another index under a key
 abbrev pub with_key : KeyParts → KeyValue → ℕ → KeyParts
-with_key t (path_key.WholePath bytes) n = with_path t bytes n
-with_key t (path_key.Basename bytes) n = with_component t bytes n
+with_key t (path_key.Literal bytes) n = with_path t bytes n
+with_key t (path_key.BasenameLiteral bytes) n = with_component t bytes n
 with_key t (path_key.Extension bytes) n = with_extension t bytes n
 with_key t (path_key.ComponentSuffix bytes) n = with_components t bytes n
 with_key t (path_key.Suffix bytes) n = with_end t bytes n

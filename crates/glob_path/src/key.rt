@@ -1,7 +1,7 @@
 //! Keys: bytes that a path or a part of it is compared with.
 
 ghost use Rattle.std.specs.Prelude.{◌≡◌, ◌↔◌, IsTrue};
-ghost use Rattle.glob_path.specs.Key.{ComponentSuffix, KeyMatches, KeyMayMatchBelow, Prefix, Suffix, WholePath, key_bytes, key_seen};
+ghost use Rattle.glob_path.specs.Key.{ComponentSuffix, KeyMatches, KeyMayMatchBelow, Prefix, Suffix, Literal, key_bytes, key_seen};
 
 use crate::candidate::Candidate;
 use crate::path_parts::{component_extension, last_component};
@@ -10,9 +10,9 @@ use crate::path_parts::{component_extension, last_component};
 #[derive(Drop)]
 pub enum Key {
     /// The key matches the path equal to it.
-    WholePath(Vec<u8>),
+    Literal(Vec<u8>),
     /// The key matches the paths whose last component it is, also if that is `..`.
-    Basename(Vec<u8>),
+    BasenameLiteral(Vec<u8>),
     /// The key matches the paths whose last component has it as its extension: its bytes from the last `.` on.
     Extension(Vec<u8>),
     /// The key matches the path that it is, and the paths that end with `/` and the key.
@@ -29,8 +29,8 @@ impl Key {
         ensures { result.now ≡ key_bytes (key_seen self.now) }
     {
         match self {
-            Key::WholePath(bytes) => bytes,
-            Key::Basename(bytes) => bytes,
+            Key::Literal(bytes) => bytes,
+            Key::BasenameLiteral(bytes) => bytes,
             Key::Extension(bytes) => bytes,
             Key::ComponentSuffix(bytes) => bytes,
             Key::Suffix(bytes) => bytes,
@@ -43,8 +43,8 @@ impl Key {
         ensures { IsTrue result ↔ KeyMatches (key_seen self.now) path.now }
     {
         match self {
-            Key::WholePath(bytes) => path.path() == bytes.as_slice(),
-            Key::Basename(bytes) => last_component(path.path()) == bytes.as_slice(),
+            Key::Literal(bytes) => path.path() == bytes.as_slice(),
+            Key::BasenameLiteral(bytes) => last_component(path.path()) == bytes.as_slice(),
             Key::Extension(bytes) => component_extension(path.path()) == bytes.as_slice(),
             Key::ComponentSuffix(bytes) => has_component_suffix(path.path(), bytes),
             Key::Suffix(bytes) => has_suffix(path.path(), bytes),
@@ -55,15 +55,15 @@ impl Key {
     /// Returns whether the key may match some path below a folder, which is a path without a `/` at its end: the folder, a `/`,
     /// and any bytes. It compares the key with the folder, and allocates nothing.
     ///
-    /// For a whole path or a beginning it is exact. For other keys it is true, since a path below the folder may end with any
-    /// bytes. The call does not check whether the key can be a last component or an extension at all.
+    /// For [`Key::Literal`] and [`Key::Prefix`] it is exact. For other keys it is true, since a path below the folder may end with
+    /// any bytes. The call does not check whether the key can be a last component or an extension at all.
     pub fn can_match_below(&self, folder: &[u8]) -> bool
         ensures { IsTrue result ↔ KeyMayMatchBelow (key_seen self.now) folder.now }
     {
         match self {
-            Key::WholePath(bytes) => is_below(bytes, folder),
+            Key::Literal(bytes) => is_below(bytes, folder),
             Key::Prefix(bytes) => may_have_prefix(folder, bytes),
-            Key::Basename(_) => true,
+            Key::BasenameLiteral(_) => true,
             Key::Extension(_) => true,
             Key::ComponentSuffix(_) => true,
             Key::Suffix(_) => true,
@@ -97,7 +97,7 @@ fn has_prefix(path: &[u8], key: &[u8]) -> bool
 
 /// Returns whether the key begins with the folder and a `/`.
 fn is_below(key: &[u8], folder: &[u8]) -> bool
-    ensures { IsTrue result ↔ KeyMayMatchBelow (WholePath key.now) folder.now }
+    ensures { IsTrue result ↔ KeyMayMatchBelow (Literal key.now) folder.now }
 {
     match key.strip_prefix(folder) {
         Some(rest) => rest.starts_with(b"/"),

@@ -269,8 +269,8 @@ impl LiteralIndexBuilder {
         ensures { OnOk result (self.new ≡ with_key self.old (key_seen key) index) }
     {
         match key {
-            Key::WholePath(bytes) => self.put_path(bytes, index),
-            Key::Basename(bytes) => self.components.insert_owned(bytes, index),
+            Key::Literal(bytes) => self.put_path(bytes, index),
+            Key::BasenameLiteral(bytes) => self.components.insert_owned(bytes, index),
             Key::Extension(bytes) => self.extensions.insert_owned(bytes, index),
             Key::ComponentSuffix(bytes) => self.put_components(bytes, index),
             Key::Suffix(bytes) => self.put_end(bytes, index),

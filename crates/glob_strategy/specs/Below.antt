@@ -6,7 +6,7 @@ use Rattle.glob_path.specs.Below.{path_below, folder_start}
 use Rattle.glob_path.specs.Key.{KeyMayMatchBelow, key_bytes}
 use Rattle.glob_syntax.specs.declared.options.Options.{Options}
 use Rattle.glob_syntax.specs.Token.{Tokens}
-use Rattle.glob_strategy.specs.Strategies.{StrategyValue, Excluded, Key, RequiredExtension, Basename, Path, after_prefix, before_ending}
+use Rattle.glob_strategy.specs.Strategies.{StrategyValue, Excluded, Key, RequiredExtension, BasenameRegex, Regex, after_prefix, before_ending}
 use Rattle.glob_strategy.specs.Excluded.{are_reported}
 
 -- the glob is reported for some path below the folder
@@ -22,14 +22,14 @@ StrategyIsSoundBelow (Key key) o ts folder = AreReportedBelow o ts folder ↔ Ke
 -- for the folders below which the tokens before the ending match something
 StrategyIsSoundBelow (RequiredExtension extension) o ts folder = AreReportedBelow o ts folder ↔ MeanAfter o (before_ending ts) (folder_start folder)
 -- for every folder, if the tokens after RecursivePrefix match anything
-StrategyIsSoundBelow Basename o ts folder = AreReportedBelow o ts folder ↔ MeanAfter o (after_prefix ts) []
+StrategyIsSoundBelow BasenameRegex o ts folder = AreReportedBelow o ts folder ↔ MeanAfter o (after_prefix ts) []
 -- for the folders below which the tokens match something
-StrategyIsSoundBelow Path o ts folder = AreReportedBelow o ts folder ↔ MeanAfter o ts (folder_start folder)
+StrategyIsSoundBelow Regex o ts folder = AreReportedBelow o ts folder ↔ MeanAfter o ts (folder_start folder)
 
 -- the key or the extension of the strategy, if any, is bytes
 abbrev pub HasBytes : StrategyValue → Type 0
 HasBytes Excluded = Unit {0}
 HasBytes (Key key) = AllBytes (key_bytes key)
 HasBytes (RequiredExtension extension) = AllBytes extension
-HasBytes Basename = Unit {0}
-HasBytes Path = Unit {0}
+HasBytes BasenameRegex = Unit {0}
+HasBytes Regex = Unit {0}

@@ -50,13 +50,13 @@ pub data StrategyValue : Type 0 where
   -- an automaton that is run on the path before the extension, but only for paths whose last component has this extension
   RequiredExtension : List ℕ → StrategyValue
   -- an automaton that is run on the path's last component
-  Basename : StrategyValue
+  BasenameRegex : StrategyValue
   -- an automaton that is run on the path
-  Path : StrategyValue
+  Regex : StrategyValue
 
 -- the strategy for tokens that no key decides
 abbrev pub automaton_strategy : Options → Tokens → StrategyValue
-automaton_strategy o ts = if is_by_last_component o ts then Basename else Path
+automaton_strategy o ts = if is_by_last_component o ts then BasenameRegex else Regex
 
 -- the strategy for tokens with this ending
 abbrev pub ending_strategy : Options → Tokens → Option (List ℕ) → StrategyValue
@@ -66,8 +66,8 @@ ending_strategy o ts None = automaton_strategy o ts
 -- the strategy for the tokens of a case-sensitive glob that is not excluded: the first that fits
 abbrev pub sensitive_strategy : Options → Tokens → StrategyValue
 sensitive_strategy o ts =
-    if is_whole_path ts then Key (path_key.WholePath (literal_text ts)) else
-    (if is_last_component ts then Key (path_key.Basename (literal_text ts)) else
+    if is_whole_path ts then Key (path_key.Literal (literal_text ts)) else
+    (if is_last_component ts then Key (path_key.BasenameLiteral (literal_text ts)) else
     (if is_last_components ts then Key (path_key.ComponentSuffix (literal_text ts)) else
     (if is_any_extension o ts then Key (path_key.Extension (literal_text ts)) else
     (if is_end o ts then Key (path_key.Suffix (literal_text ts)) else

@@ -12,15 +12,15 @@ use Rattle.glob_strategy.specs.declared.strategy.MatchStrategy.TheVariants as he
 use Rattle.glob_strategy.specs.Excluded.{are_reported}
 use Rattle.glob_strategy.specs.Below.{StrategyIsSoundBelow, HasBytes}
 use Rattle.glob_strategy.specs.Direct.{is_direct, needs_automaton}
-use Rattle.glob_strategy.specs.Strategies.{StrategyValue, Excluded, Key, RequiredExtension, Basename, Path, after_prefix, before_ending, strategy_of_tokens}
+use Rattle.glob_strategy.specs.Strategies.{StrategyValue, Excluded, Key, RequiredExtension, BasenameRegex, Regex, after_prefix, before_ending, strategy_of_tokens}
 
 -- a strategy of the program
 abbrev pub strategy_seen : MatchStrategy → StrategyValue
 strategy_seen held.Excluded = Excluded
 strategy_seen (held.Key key) = Key (key_seen key)
 strategy_seen (held.RequiredExtension extension) = RequiredExtension extension.items
-strategy_seen held.Basename = Basename
-strategy_seen held.Path = Path
+strategy_seen held.BasenameRegex = BasenameRegex
+strategy_seen held.Regex = Regex
 
 -- The strategy's condition for reporting a glob with these tokens for the path.
 abbrev pub StrategyIsSound : StrategyValue → Options → Tokens → List ℕ → Type 0
@@ -33,25 +33,25 @@ StrategyIsSound (Key key) o ts path = IsTrue (are_reported o ts path) ↔ KeyMat
 StrategyIsSound (RequiredExtension extension) o ts path =
     (IsTrue (are_reported o ts path) → component_extension path ≡ extension) × ((front : List ℕ) → front ++ extension ≡ path → are_reported o ts path ≡ tokens_match o (before_ending ts) front)
 -- for the paths whose last component the tokens after RecursivePrefix match
-StrategyIsSound Basename o ts path = are_reported o ts path ≡ tokens_match o (after_prefix ts) (last_component path)
+StrategyIsSound BasenameRegex o ts path = are_reported o ts path ≡ tokens_match o (after_prefix ts) (last_component path)
 -- for the paths that the tokens match
-StrategyIsSound Path o ts path = are_reported o ts path ≡ tokens_match o ts path
+StrategyIsSound Regex o ts path = are_reported o ts path ≡ tokens_match o ts path
 
 -- An automaton has to be run to decide for the path whether the glob is reported.
 abbrev pub runs_automaton : StrategyValue → List ℕ → Bool
 runs_automaton Excluded path = false
 runs_automaton (Key key) path = false
 runs_automaton (RequiredExtension extension) path = bytes_eq extension (component_extension path)
-runs_automaton Basename path = true
-runs_automaton Path path = true
+runs_automaton BasenameRegex path = true
+runs_automaton Regex path = true
 
 -- the strategy has an automaton, which is run for some path
 abbrev pub has_automaton : StrategyValue → Bool
 has_automaton Excluded = false
 has_automaton (Key key) = false
 has_automaton (RequiredExtension extension) = true
-has_automaton Basename = true
-has_automaton Path = true
+has_automaton BasenameRegex = true
+has_automaton Regex = true
 
 -- The strategy is the table's, and it is sound for a glob with these tokens, every path and every folder. It has an automaton
 -- only if the glob is not direct, and runs it only where the glob needs it. Its key is bytes.

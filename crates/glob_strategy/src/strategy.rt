@@ -32,9 +32,9 @@ pub enum MatchStrategy {
     RequiredExtension(Vec<u8>),
     /// The glob matches the paths whose last component matches [`tokens_after_prefix`]. An automaton for these tokens matches the
     /// component.
-    Basename,
+    BasenameRegex,
     /// An automaton for the glob matches the path.
-    Path,
+    Regex,
 }
 
 /// Returns the strategy of a glob with these tokens: the first that fits. It allocates a key or an extension, and time linear in
@@ -58,8 +58,8 @@ pub fn strategy_of(
     Ok(strategy)
 }
 
-/// Returns the tokens that the last component of a path has to match for a glob with the strategy [`MatchStrategy::Basename`]: all
-/// tokens after `RecursivePrefix`. If they do not begin with it, these are all tokens.
+/// Returns the tokens that the last component of a path has to match for a glob with the strategy
+/// [`MatchStrategy::BasenameRegex`]: all tokens after `RecursivePrefix`. If they do not begin with it, these are all tokens.
 pub fn tokens_after_prefix(tokens: &[Token]) -> &[Token]
     requires { IsNested (flats tokens.now) }
     ensures tokens { tokens_of result.now ≡ after_prefix (tokens_of tokens.now) }
@@ -104,10 +104,10 @@ fn sensitive_strategy(
         (λ strategy. strategy_seen strategy ≡ sensitive_strategy options (tokens_of tokens.now)) }
 {
     if is_whole_path(tokens) {
-        return Ok(MatchStrategy::Key(Key::WholePath(literal_text(alloc, tokens)?)));
+        return Ok(MatchStrategy::Key(Key::Literal(literal_text(alloc, tokens)?)));
     }
     if is_last_component(tokens) {
-        return Ok(MatchStrategy::Key(Key::Basename(literal_text(alloc, tokens)?)));
+        return Ok(MatchStrategy::Key(Key::BasenameLiteral(literal_text(alloc, tokens)?)));
     }
     if is_last_components(tokens) {
         return Ok(MatchStrategy::Key(Key::ComponentSuffix(literal_text(alloc, tokens)?)));
@@ -136,9 +136,9 @@ fn automaton_strategy(options: Options, tokens: &[Token]) -> MatchStrategy
     ensures { strategy_seen result ≡ automaton_strategy options (tokens_of tokens.now) }
 {
     if is_by_last_component(options, tokens) {
-        MatchStrategy::Basename
+        MatchStrategy::BasenameRegex
     } else {
-        MatchStrategy::Path
+        MatchStrategy::Regex
     }
 }
 
@@ -149,7 +149,7 @@ fn has_bytes(strategy: &MatchStrategy)
     match strategy {
         MatchStrategy::Key(key) => are_bytes(key.bytes()),
         MatchStrategy::RequiredExtension(extension) => are_bytes(extension),
-        MatchStrategy::Excluded | MatchStrategy::Basename | MatchStrategy::Path => {}
+        MatchStrategy::Excluded | MatchStrategy::BasenameRegex | MatchStrategy::Regex => {}
     }
 }
 

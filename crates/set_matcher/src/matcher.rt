@@ -446,10 +446,10 @@ fn put(
             let rest = tokens_before_ending(tokens);
             automata.add(alloc, Target::Extension(extension), options, rest, index)
         }
-        MatchStrategy::Basename => {
+        MatchStrategy::BasenameRegex => {
             let rest = tokens_after_prefix(tokens);
             automata.add(alloc, Target::LastComponent, options, rest, index)
         }
-        MatchStrategy::Path => automata.add(alloc, Target::Path, options, tokens, index),
+        MatchStrategy::Regex => automata.add(alloc, Target::Path, options, tokens, index),
     }
 }

@@ -4,7 +4,7 @@ use Rattle.std.specs.Prelude.{◌↔◌, ◌≢◌}
 use Rattle.std.proofs.Math.Logic.{⊎_elim}
 use Rattle.std.proofs.lemmas.List.{append_assoc, append_cancel_left, append_cancel_right}
 use Rattle.glob_path.specs.Below.{BeginsWith, folder_start}
-use Rattle.glob_path.specs.Key.{ComponentSuffix, KeyMatches, KeyMayMatchBelow, Prefix, WholePath}
+use Rattle.glob_path.specs.Key.{ComponentSuffix, KeyMatches, KeyMayMatchBelow, Prefix, Literal}
 
 -- ---- the end of a path
 
@@ -29,14 +29,14 @@ no_front path key none = (
 
 -- the key begins with the folder and a `/`, if what is behind the folder begins with a `/`
 pub rest_begins : (key folder rest : List ℕ) (begins : Bool) → key ≡ folder ++ rest → (begins ≡ true → rest ≡ 47 ∷ drop 1 rest) → ((z : List ℕ) → rest ≡ 47 ∷ z → begins ≡ true)
-    → IsTrue begins ↔ KeyMayMatchBelow (WholePath key) folder
+    → IsTrue begins ↔ KeyMayMatchBelow (Literal key) folder
 rest_begins key folder rest begins cut some all = (
   λ yes. (drop 1 rest, append_assoc folder (47 ∷ []) (drop 1 rest) ∙ ap (λ l. folder ++ l) (sym (some yes)) ∙ sym cut),
   λ (z, is). all z (append_cancel_left folder rest (47 ∷ z) (sym cut ∙ sym is ∙ append_assoc folder (47 ∷ []) z)),
 )
 
 -- a key that does not begin with the folder does not begin with it and a `/` either
-pub no_rest : (key folder : List ℕ) → ((rest : List ℕ) → key ≢ folder ++ rest) → IsTrue false ↔ KeyMayMatchBelow (WholePath key) folder
+pub no_rest : (key folder : List ℕ) → ((rest : List ℕ) → key ≢ folder ++ rest) → IsTrue false ↔ KeyMayMatchBelow (Literal key) folder
 no_rest key folder none = (
   λ no. absurd (true≢false (sym no)),
   λ (z, is). absurd (none (47 ∷ z) (sym is ∙ append_assoc folder (47 ∷ []) z)),
@@ -55,7 +55,7 @@ begins_shorter (c ∷ folder) (k ∷ ks) z cut =
     (begins_shorter folder ks z others)
 
 -- whether some path below the folder begins with the key, if the key does not begin with the folder and a `/`
-pub may_begin : (folder key : List ℕ) (found : Bool) → (KeyMayMatchBelow (WholePath key) folder → ⊥) → IsTrue found ↔ KeyMatches (Prefix key) folder
+pub may_begin : (folder key : List ℕ) (found : Bool) → (KeyMayMatchBelow (Literal key) folder → ⊥) → IsTrue found ↔ KeyMatches (Prefix key) folder
     → IsTrue found ↔ KeyMayMatchBelow (Prefix key) folder
 may_begin folder key found longer h = (
   λ yes. let (r, is) = h.0 yes in inr (r ++ 47 ∷ [], sym (append_assoc key r (47 ∷ [])) ∙ ap (λ l. l ++ 47 ∷ []) is),

@@ -337,8 +337,8 @@ nothing_if t is path = subst (λ k. keys_found k path ≡ []) (sym is) (nothing_
 -- ---- keys that are old ones and one more
 
 key_more : (t : KeyParts) (key : KeyValue) (n : ℕ) (path : List ℕ) (m : Bool) → (IsTrue m ↔ KeyMatches key path) → MoreIn (keys_found t path) (keys_found (with_key t key n) path) n m
-key_more t (path_key.WholePath bytes) n path m tells = path_more t bytes n path m tells
-key_more t (path_key.Basename bytes) n path m tells = component_more t bytes n path m tells
+key_more t (path_key.Literal bytes) n path m tells = path_more t bytes n path m tells
+key_more t (path_key.BasenameLiteral bytes) n path m tells = component_more t bytes n path m tells
 key_more t (path_key.Extension bytes) n path m tells = extension_more t bytes n path m tells
 key_more t (path_key.ComponentSuffix bytes) n path m tells = components_more t bytes n path m tells
 key_more t (path_key.Suffix bytes) n path m tells = end_more t bytes n path m tells

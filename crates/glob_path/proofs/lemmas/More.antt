@@ -95,8 +95,8 @@ always_more t new always folder = (λ h. inr tt, λ h. always folder)
 -- ---- keys that are old ones and one more
 
 key_more : (t : KeyParts) (key : KeyValue) (n : ℕ) → BelowMore t (with_key t key n) (KeyMayMatchBelow key)
-key_more t (path_key.WholePath bytes) n = path_more t bytes n
-key_more t (path_key.Basename bytes) n = always_more t (with_component t bytes n) (λ folder. by_component (some_added t.components (entry bytes n)))
+key_more t (path_key.Literal bytes) n = path_more t bytes n
+key_more t (path_key.BasenameLiteral bytes) n = always_more t (with_component t bytes n) (λ folder. by_component (some_added t.components (entry bytes n)))
 key_more t (path_key.Extension bytes) n = always_more t (with_extension t bytes n) (λ folder. by_extension (some_added t.extensions (entry bytes n)))
 key_more t (path_key.ComponentSuffix bytes) n = always_more t (with_components t bytes n) (λ folder. by_end (some_added t.ends (entry (after_separator bytes) n)))
 key_more t (path_key.Suffix bytes) n = always_more t (with_end t bytes n) (λ folder. by_end (some_added t.ends (entry bytes n)))

@@ -17,7 +17,7 @@ use Rattle.glob_path.specs.Key as path_key
 use Rattle.glob_strategy.specs.Excluded.{are_reported}
 use Rattle.glob_strategy.specs.Below.{AreReportedBelow, StrategyIsSoundBelow, HasBytes}
 use Rattle.glob_strategy.specs.StrategyMeaning.{StrategyIsSound}
-use Rattle.glob_strategy.specs.Strategies.{StrategyValue, Excluded, Key, RequiredExtension, Basename, Path, after_prefix, before_ending}
+use Rattle.glob_strategy.specs.Strategies.{StrategyValue, Excluded, Key, RequiredExtension, BasenameRegex, Regex, after_prefix, before_ending}
 use Rattle.glob_strategy.proofs.lemmas.Components.{Lacks, lacks_back, last_component_at, split, IsExtension, extension_ends, extension_parts}
 use Rattle.glob_strategy.proofs.lemmas.TokenMeaning.{extension_end}
 use Rattle.glob_path.proofs.lemmas.LastPositions.{neither}
@@ -79,25 +79,25 @@ front_bytes (c ∷ p) q h = (h.0, front_bytes p q h.1)
 
 -- what is known of a key, beside what it says of paths
 abbrev pub IsKeyShaped : KeyValue → Type 0
-IsKeyShaped (path_key.Basename key) = Lacks is_separator key
+IsKeyShaped (path_key.BasenameLiteral key) = Lacks is_separator key
 IsKeyShaped (path_key.Extension key) = IsExtension key
 IsKeyShaped key = Unit {0}
 
 -- what is known of the tokens that a strategy fits, beside what it says of paths
 abbrev pub IsShaped : Options → Tokens → StrategyValue → Type 0
 IsShaped o ts (Key key) = IsKeyShaped key
-IsShaped o ts Basename = (b : List ℕ) → IsTrue (tokens_match o (after_prefix ts) b) → Lacks is_separator b
+IsShaped o ts BasenameRegex = (b : List ℕ) → IsTrue (tokens_match o (after_prefix ts) b) → Lacks is_separator b
 IsShaped o ts strategy = Unit {0}
 
 module _ (o : Options) (ts : Tokens) (folder : List ℕ) where
   pub key_tells_below : (key : KeyValue) → AllBytes (key_bytes key) → IsKeyShaped key → ((path : List ℕ) → IsTrue (are_reported o ts path) ↔ KeyMatches key path)
       → AreReportedBelow o ts folder ↔ KeyMayMatchBelow key folder
-  key_tells_below (path_key.WholePath key) has shape tells = (
+  key_tells_below (path_key.Literal key) has shape tells = (
     λ (rest, all, h). (rest, with_slash folder rest ∙ (tells (path_below folder rest)).0 h),
     λ (rest, is). let cut = sym (with_slash folder rest) ∙ is in
         (rest, (rest_bytes folder (slash ∷ rest) (subst AllBytes (sym cut) has)).1, (tells (path_below folder rest)).1 cut),
   )
-  key_tells_below (path_key.Basename key) has shape tells = (λ some. tt, λ t. (key, has, (tells (path_below folder key)).1 (name_below folder key shape)))
+  key_tells_below (path_key.BasenameLiteral key) has shape tells = (λ some. tt, λ t. (key, has, (tells (path_below folder key)).1 (name_below folder key shape)))
   key_tells_below (path_key.Extension key) has shape tells =
       (λ some. tt, λ t. (key, has, (tells (path_below folder key)).1 (extension_ends (path_below folder key) key shape (folder ++ slash ∷ [], sym (with_slash folder key)))))
   key_tells_below (path_key.ComponentSuffix key) has shape tells = (λ some. tt, λ t. (key, has, (tells (path_below folder key)).1 (inr (folder, refl))))
@@ -136,11 +136,11 @@ module _ (o : Options) (ts : Tokens) (folder : List ℕ) (bytes : AllBytes folde
           (tells path).1 (path_below folder rest) (append_assoc folder (slash ∷ rest) key) ∙ subst (λ f. IsTrue (tokens_match o (before_ending ts) f)) (with_slash folder rest) h,
         ),
   )
-  sound_below Basename has shape tells = (
+  sound_below BasenameRegex has shape tells = (
     λ (rest, all, h).
         let path = path_below folder rest in
         let s = split path in
         (last_component path, rest_bytes s.front (last_component path) (subst AllBytes s.cut (append_bytes folder (slash ∷ rest) bytes (let small : slash < 256 = omega arith in small, all))), sym (tells path) ∙ h),
     λ (name, all, h). (name, all, tells (path_below folder name) ∙ ap (tokens_match o (after_prefix ts)) (name_below folder name (shape name h)) ∙ h),
   )
-  sound_below Path has shape tells = path_tells_below o ts folder tells
+  sound_below Regex has shape tells = path_tells_below o ts folder tells

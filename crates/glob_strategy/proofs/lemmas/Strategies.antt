@@ -8,7 +8,7 @@ use Rattle.glob_syntax.specs.TokensMatch.{tokens_match}
 use Rattle.glob_path.specs.PathParts.{last_component, component_extension}
 use Rattle.glob_strategy.specs.Excluded.{are_excluded, are_reported}
 use Rattle.glob_strategy.specs.TokenTests.{literal_text, ending, is_whole_path, is_last_components, is_end, is_beginning, is_below_folder}
-use Rattle.glob_strategy.specs.Strategies.{StrategyValue, Excluded, Basename, Path, is_last_component, is_any_extension, is_by_last_component, automaton_strategy, ending_strategy, sensitive_strategy, strategy_of_tokens}
+use Rattle.glob_strategy.specs.Strategies.{StrategyValue, Excluded, BasenameRegex, Regex, is_last_component, is_any_extension, is_by_last_component, automaton_strategy, ending_strategy, sensitive_strategy, strategy_of_tokens}
 use Rattle.glob_strategy.specs.Below.{HasBytes}
 use Rattle.glob_strategy.specs.StrategyMeaning.{strategy_seen, StrategyIsSound, runs_automaton, has_automaton, IsStrategyOf}
 use Rattle.glob_strategy.specs.Direct.{is_direct, has_ending, needs_automaton}
@@ -57,7 +57,7 @@ listed_means o ts path loud = ap (λ b. not b && tokens_match o ts path) loud
 automaton_tells : (o : Options) (ts : Tokens) (path : List ℕ) → are_excluded o ts ≡ false → StrategyIsSound (automaton_strategy o ts) o ts path
 automaton_tells o ts path loud = by_case (is_by_last_component o ts) refl
   where
-    by_case : (b : Bool) → is_by_last_component o ts ≡ b → StrategyIsSound (if b then Basename else Path) o ts path
+    by_case : (b : Bool) → is_by_last_component o ts ≡ b → StrategyIsSound (if b then BasenameRegex else Regex) o ts path
     by_case true h = listed_means o ts path loud ∙ by_last_component_means o path ts h
     by_case false h = listed_means o ts path loud
 

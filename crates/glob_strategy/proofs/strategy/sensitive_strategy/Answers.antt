@@ -1,7 +1,7 @@
 use Rattle.std.proofs.Common.{Some, ◌∷◌, [], ◌++◌, ap, sym, ◌∙◌}
 use Rattle.glob_syntax.specs.Views.{flats, tokens_of}
 use Rattle.glob_syntax.specs.TokenMatches.{slash}
-use Rattle.glob_path.specs.Key.{WholePath, Basename, Extension, ComponentSuffix, Suffix, Prefix}
+use Rattle.glob_path.specs.Key.{Literal, BasenameLiteral, Extension, ComponentSuffix, Suffix, Prefix}
 use Rattle.glob_strategy.specs.Strategies.{Key, ending_strategy}
 use Rattle.glob_strategy.proofs.lemmas.Endings.{ending_same}
 use Rattle.glob_strategy.proofs.lemmas.FlatTests.{whole_path_same, last_component_same, last_components_same, any_extension_same, end_same, beginning_same, below_folder_same, whole_path_text, last_component_text, last_components_text, any_extension_text, end_text, beginning_text, below_folder_text}
@@ -12,14 +12,14 @@ pub returns-then-is_whole_path : goal.returns-then-is_whole_path
 returns-then-is_whole_path c =
     let fs = flats c.args.tokens.now in
     row_fits _ _ (whole_path_same fs c.requires) c.is_whole_path.ensures c.if-is_whole_path.true
-    (ap (λ text. Key (WholePath text)) (c.in_ok-literal_text.ensures ∙ whole_path_text fs (sym c.is_whole_path.ensures ∙ c.if-is_whole_path.true)))
+    (ap (λ text. Key (Literal text)) (c.in_ok-literal_text.ensures ∙ whole_path_text fs (sym c.is_whole_path.ensures ∙ c.if-is_whole_path.true)))
 
 pub returns-then-is_last_component : goal.returns-then-is_last_component
 returns-then-is_last_component c =
     let fs = flats c.args.tokens.now in
     row_fails _ _ (whole_path_same fs c.requires) c.is_whole_path.ensures c.if-is_whole_path.false
     (row_fits _ _ (last_component_same fs c.requires) c.is_last_component.ensures c.if-is_last_component.true
-    (ap (λ text. Key (Basename text)) (c.in_ok-literal_text-2.ensures ∙ last_component_text fs (sym c.is_last_component.ensures ∙ c.if-is_last_component.true))))
+    (ap (λ text. Key (BasenameLiteral text)) (c.in_ok-literal_text-2.ensures ∙ last_component_text fs (sym c.is_last_component.ensures ∙ c.if-is_last_component.true))))
 
 pub returns-then-is_last_components : goal.returns-then-is_last_components
 returns-then-is_last_components c =

@@ -34,21 +34,21 @@ returns-in-RequiredExtension-clause-matcher c =
     is.tells is.automaton (is.indirect refl) is.below)
     c.add-in-RequiredExtension.ensures.added
 
-pub returns-in-Basename-clause-matcher : goal.returns-in-Basename-clause-matcher
-returns-in-Basename-clause-matcher c =
-    let is = rw c.in-Basename.is at c.in_ok-strategy_of.ensures in
+pub returns-in-BasenameRegex-clause-matcher : goal.returns-in-BasenameRegex-clause-matcher
+returns-in-BasenameRegex-clause-matcher c =
+    let is = rw c.in-BasenameRegex.is at c.in_ok-strategy_of.ensures in
     let g = token_glob c.args.options (tokens_of c.args.tokens.now) in
-    on_ok_weaker c.add-in-Basename.result
-    (λ added globs at before. by_component_added globs g c.args.index at c.args.keys.now c.args.automata.now before c.add-in-Basename.new.self
-    (subst (λ ts. AddsTo LastComponent c.args.automata.now c.add-in-Basename.new.self (indexed g.options ts c.args.index)) c.tokens_after_prefix-rest.ensures.tokens added)
+    on_ok_weaker c.add-in-BasenameRegex.result
+    (λ added globs at before. by_component_added globs g c.args.index at c.args.keys.now c.args.automata.now before c.add-in-BasenameRegex.new.self
+    (subst (λ ts. AddsTo LastComponent c.args.automata.now c.add-in-BasenameRegex.new.self (indexed g.options ts c.args.index)) c.tokens_after_prefix-rest.ensures.tokens added)
     is.tells (λ path. is.automaton path refl) is.below)
-    c.add-in-Basename.ensures.added
+    c.add-in-BasenameRegex.ensures.added
 
-pub returns-in-Path-clause-matcher : goal.returns-in-Path-clause-matcher
-returns-in-Path-clause-matcher c =
-    let is = rw c.in-Path.is at c.in_ok-strategy_of.ensures in
+pub returns-in-Regex-clause-matcher : goal.returns-in-Regex-clause-matcher
+returns-in-Regex-clause-matcher c =
+    let is = rw c.in-Regex.is at c.in_ok-strategy_of.ensures in
     let g = token_glob c.args.options (tokens_of c.args.tokens.now) in
-    on_ok_weaker c.add-in-Path.result
-    (λ added globs at before. by_path_added globs g c.args.index at c.args.keys.now c.args.automata.now before c.add-in-Path.new.self added
+    on_ok_weaker c.add-in-Regex.result
+    (λ added globs at before. by_path_added globs g c.args.index at c.args.keys.now c.args.automata.now before c.add-in-Regex.new.self added
     is.tells (λ path. is.automaton path refl) (is.indirect refl) is.below)
-    c.add-in-Path.ensures.added
+    c.add-in-Regex.ensures.added

@@ -4,9 +4,9 @@ use Rattle.glob_path.specs.declared.key.Key.{Key}
 use Rattle.glob_path.specs.Key.{KeyMayMatchBelow, key_seen}
 use Rattle.glob_path.proofs.key.Key.can_match_below.Goals as goal
 
-pub returns-in-WholePath : goal.returns-in-WholePath
-returns-in-WholePath c =
-    subst (λ (k : Key). IsTrue c.is_below.result ↔ KeyMayMatchBelow (key_seen k) c.args.folder.now) (sym c.in-WholePath.is)
+pub returns-in-Literal : goal.returns-in-Literal
+returns-in-Literal c =
+    subst (λ (k : Key). IsTrue c.is_below.result ↔ KeyMayMatchBelow (key_seen k) c.args.folder.now) (sym c.in-Literal.is)
     (rw (← c.deref.ensures.value) c.is_below.ensures)
 
 pub returns-in-Prefix : goal.returns-in-Prefix

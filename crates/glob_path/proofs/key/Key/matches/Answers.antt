@@ -7,15 +7,15 @@ use Rattle.glob_path.specs.Key.{KeyMatches, key_seen}
 use Rattle.glob_path.specs.PathParts.{component_extension, last_component}
 use Rattle.glob_path.proofs.key.Key.matches.Goals as goal
 
-pub returns-in-WholePath : goal.returns-in-WholePath
-returns-in-WholePath c =
-    subst (λ (k : Key). IsTrue c.eq.result ↔ KeyMatches (key_seen k) c.args.path.now) (sym c.in-WholePath.is)
+pub returns-in-Literal : goal.returns-in-Literal
+returns-in-Literal c =
+    subst (λ (k : Key). IsTrue c.eq.result ↔ KeyMatches (key_seen k) c.args.path.now) (sym c.in-Literal.is)
     (rw (← c.path.ensures, ← c.as_slice.ensures.value) (slice_eq-Decides Decides-eqb c.path.result.now c.as_slice.result.now _ c.eq.ensures))
 
-pub returns-in-Basename : goal.returns-in-Basename
-returns-in-Basename c =
-    subst (λ (k : Key). IsTrue c.eq-in-Basename.result ↔ KeyMatches (key_seen k) c.args.path.now) (sym c.in-Basename.is)
-    (rw (← (c.last_component.ensures ∙ ap last_component c.path-in-Basename.ensures), ← c.as_slice-in-Basename.ensures.value) (slice_eq-Decides Decides-eqb c.last_component.result.now c.as_slice-in-Basename.result.now _ c.eq-in-Basename.ensures))
+pub returns-in-BasenameLiteral : goal.returns-in-BasenameLiteral
+returns-in-BasenameLiteral c =
+    subst (λ (k : Key). IsTrue c.eq-in-BasenameLiteral.result ↔ KeyMatches (key_seen k) c.args.path.now) (sym c.in-BasenameLiteral.is)
+    (rw (← (c.last_component.ensures ∙ ap last_component c.path-in-BasenameLiteral.ensures), ← c.as_slice-in-BasenameLiteral.ensures.value) (slice_eq-Decides Decides-eqb c.last_component.result.now c.as_slice-in-BasenameLiteral.result.now _ c.eq-in-BasenameLiteral.ensures))
 
 pub returns-in-Extension : goal.returns-in-Extension
 returns-in-Extension c =
