@@ -8,7 +8,7 @@ ghost use Rattle.glob_relations.specs.inner.Automata.{IsFor, FindsEach, numbered
 
 use byte_nfa::{Builder, Nfa};
 use glob_strategy::{add_tokens, new_builder};
-use globset_glob::{Glob, options_of, tokens_of};
+use globset_glob::{Glob, flat_tokens_of, options_of};
 use ignore_pattern::{IgnorePattern, add_pattern};
 use std::alloc::{AllocError, Global};
 
@@ -47,7 +47,13 @@ impl Compared for Glob {
         builder: &mut Builder,
         index: usize,
     ) -> Result<(), AllocError> {
-        add_tokens(alloc, builder, options_of(self), tokens_of(self), index)
+        add_tokens(
+            alloc,
+            builder,
+            options_of(self),
+            flat_tokens_of(self),
+            index,
+        )
     }
 }
 

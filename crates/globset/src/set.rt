@@ -16,7 +16,8 @@ mod matching;
 use crate::builder::GlobSetBuilder;
 use glob_text::error_of_element;
 use globset_glob::{
-    DEFAULT_DFA_SIZE_LIMIT, Error, Glob, ValueError, ValueErrorKind, options_of, text_of, tokens_of,
+    DEFAULT_DFA_SIZE_LIMIT, Error, Glob, ValueError, ValueErrorKind, flat_tokens_of, options_of,
+    text_of,
 };
 use serde_json::Value;
 use set_matcher::{SetMatcher, SetMatcherBuilder};
@@ -286,7 +287,7 @@ fn add(builder: &mut SetMatcherBuilder, glob: &Glob) -> Result<(), AllocError>
     ensures none { OnErr result (builder.new.given ≡ []) }
     ensures count { builder.new.count ≡ builder.old.count }
 {
-    builder.add(text_of(glob), options_of(glob), tokens_of(glob))
+    builder.add(text_of(glob), options_of(glob), flat_tokens_of(glob))
 }
 
 /// Returns the set of these globs, in order. They are not copied. The rows that it keeps take at most `dfa_size_limit` bytes.

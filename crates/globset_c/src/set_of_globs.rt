@@ -12,7 +12,7 @@ use crate::object::Object;
 use crate::owned::Owned;
 use crate::status::{DONE, OUT_OF_MEMORY, Status, WRONG_KIND};
 use globset::{DEFAULT_DFA_SIZE_LIMIT, GlobSet};
-use globset_glob::{options_of, text_of, tokens_of};
+use globset_glob::{flat_tokens_of, options_of, text_of};
 use set_matcher::SetMatcherBuilder;
 use std::alloc::{AllocError, Global};
 
@@ -97,7 +97,7 @@ fn add(
     let mut builder = builder;
     if let Object::Glob(glob) = object {
         let glob = glob.glob();
-        builder.add(text_of(glob), options_of(glob), tokens_of(glob))?;
+        builder.add(text_of(glob), options_of(glob), flat_tokens_of(glob))?;
     }
     Ok(builder)
 }

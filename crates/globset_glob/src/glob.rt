@@ -213,8 +213,8 @@ impl Clone for Glob {
     }
 }
 
-/// Returns the tokens that the glob's text was read as under its options.
-pub fn tokens_of(glob: &Glob) -> &[Token]
+/// Returns the flat tokens that the glob's text was read as under its options.
+pub fn flat_tokens_of(glob: &Glob) -> &[Token]
     ensures read { reading glob.now.options (chars glob.now.text) ≡ Ok (tokens_of result.now) }
     ensures tokens { tokens_of_glob glob.now ≡ tokens_of result.now }
     ensures nested { IsNested (flats result.now) }

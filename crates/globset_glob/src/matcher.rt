@@ -9,7 +9,7 @@ ghost use Rattle.globset_glob.specs.GlobBelow.{GlobMatchesBelow};
 ghost use Rattle.glob_text.specs.GlobMatches.{GlobValue, glob_matches};
 ghost use Rattle.globset_glob.specs.inner.GlobNfa.{IsAutomatonOf, IsCacheOf, IsStrategyOfMatcher, form_states};
 
-use crate::glob::{Glob, options_of, tokens_of};
+use crate::glob::{Glob, flat_tokens_of, options_of};
 use bit_sets::Visits;
 use glob_matching::{Compiled, DEFAULT_DFA_SIZE_LIMIT, NeedsScratch, Scratch};
 use glob_path::{AsPath, Candidate, Key};
@@ -306,7 +306,7 @@ impl Strategy {
         if let MatchStrategy::Key(key) = strategy_of(
             glob.allocator(),
             options_of(glob),
-            tokens_of(glob),
+            flat_tokens_of(glob),
         )? {
             return Ok(Strategy::Key(key));
         }
@@ -442,7 +442,13 @@ fn automaton_of(glob: &Glob, dfa_size_limit: usize) -> Result<Compiled, AllocErr
 {
     let alloc = glob.allocator();
     let mut builder = new_builder(alloc, 1);
-    add_tokens(alloc, &mut builder, options_of(glob), tokens_of(glob), 0)?;
+    add_tokens(
+        alloc,
+        &mut builder,
+        options_of(glob),
+        flat_tokens_of(glob),
+        0,
+    )?;
     let automaton = builder.finish();
     let states = automaton.state_count();
     Compiled::new(alloc, dfa_size_limit, automaton, states)

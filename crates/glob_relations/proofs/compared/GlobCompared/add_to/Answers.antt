@@ -14,8 +14,8 @@ returns-clause-added c =
     let old : NfaValue = c.args.builder.now in
     let new : NfaValue = c.add_tokens.new.builder in
     let x : GlobValue × ℕ = (c.args.self.now, c.args.index) in
-    let t : tokens.IndexedTokens = tokens.indexed c.options_of.result (tokens_of c.tokens_of.result.now) c.args.index in
-    let same : t ≡ tokens_of_item x = same_item c.args.self.now c.options_of.result (tokens_of c.tokens_of.result.now) c.args.index c.options_of.ensures c.tokens_of.ensures.tokens in
+    let t : tokens.IndexedTokens = tokens.indexed c.options_of.result (tokens_of c.flat_tokens_of.result.now) c.args.index in
+    let same : t ≡ tokens_of_item x = same_item c.args.self.now c.options_of.result (tokens_of c.flat_tokens_of.result.now) c.args.index c.options_of.ensures c.flat_tokens_of.ensures.tokens in
     on_ok_more
     ((xs : List tokens.IndexedTokens) → tokens.IsFor old xs → tokens.IsFor new (xs ++ t ∷ []))
     ((xs : List (GlobValue × ℕ)) → IsFor glob_matches xs old → IsFor glob_matches (xs ++ x ∷ []) new)

@@ -9,6 +9,6 @@ use Rattle.globset_glob.proofs.matcher.Strategy.of.Goals as goal
 pub returns-in-Key : goal.returns-in-Key
 returns-in-Key c =
     let g = c.args.glob.now in
-    let tokens = tokens_are g (tokens_of c.tokens_of.result.now) c.tokens_of.ensures.read in
-    let is = subst (λ (s : MatchStrategy). IsStrategyOf c.options_of.result (tokens_of c.tokens_of.result.now) s) c.in-Key.is c.in_ok-key.ensures in
-    rw (tokens, ← c.options_of.ensures) (decided c.options_of.result (tokens_of c.tokens_of.result.now) c.in-Key.key is)
+    let tokens = tokens_are g (tokens_of c.flat_tokens_of.result.now) c.flat_tokens_of.ensures.read in
+    let is = subst (λ (s : MatchStrategy). IsStrategyOf c.options_of.result (tokens_of c.flat_tokens_of.result.now) s) c.in-Key.is c.in_ok-key.ensures in
+    rw (tokens, ← c.options_of.ensures) (decided c.options_of.result (tokens_of c.flat_tokens_of.result.now) c.in-Key.key is)
