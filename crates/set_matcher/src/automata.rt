@@ -10,7 +10,7 @@ ghost use Rattle.glob_path.specs.PathParts.{component_extension};
 ghost use Rattle.glob_syntax.specs.FlatTokens.{IsNested};
 ghost use Rattle.glob_syntax.specs.Views.{flats, tokens_of};
 ghost use Rattle.set_matcher.specs.inner.Caches.{AreCachesOf};
-ghost use Rattle.set_matcher.specs.inner.Automata.{AreForLists, AreFound, AreIdle, IsFoundSet, TokenLists, automata_or_none, max_states, no_automata, reads_for, slot_of, states_for, AreFoundBelow, folder_reads};
+ghost use Rattle.set_matcher.specs.inner.Automata.{AreForLists, AreFound, AreIdle, IsFoundSet, TokenLists, automata_or_none, max_states, nfa_at, no_automata, reads_for, slot_of, states_for, AreFoundBelow, folder_reads};
 ghost use Rattle.set_matcher.specs.inner.Builders.{AddsTo};
 ghost use Rattle.byte_nfa.specs.Live.{MatchesAfter};
 
@@ -132,8 +132,7 @@ impl Automata {
         ensures counted { visits.old ≤ visits.new }
     {
         let slot = self.slot_of(path, visits);
-        let by_extension = self.extensions.automaton_at(slot);
-        if self.is_idle(by_extension) {
+        if self.is_idle(slot) {
             return Ok(false);
         }
         marks.clear();
@@ -157,7 +156,8 @@ impl Automata {
             visits,
         )?;
         let caches = &mut caches.by_slot;
-        caches.run(slot, by_extension, path, sets, marks, visits)?;
+        self.extensions
+            .find(slot, path, sets, caches, marks, visits)?;
         Ok(true)
     }
 
@@ -212,9 +212,8 @@ impl Automata {
             return Ok(true);
         }
         let slot = self.slot_of(path, visits);
-        let by_extension = self.extensions.automaton_at(slot);
         let caches = &mut caches.by_slot;
-        caches.matches(slot, by_extension, path, sets, visits)
+        self.extensions.is_match(slot, path, sets, caches, visits)
     }
 
     /// Returns the slot of the extension of the path's last component, if it has one. The extension is only searched for if some
@@ -241,14 +240,16 @@ impl Automata {
         !self.extensions.is_empty()
     }
 
-    /// Returns whether there are no states, in the automaton of an extension either.
-    fn is_idle(&self, by_extension: &Compiled) -> bool
+    /// Returns whether there are no states, in the automaton of a slot either.
+    fn is_idle(&self, slot: Option<usize>) -> bool
+        requires { (s : ℕ) → slot ≡ Some s → s < length self.now.extensions.nfas }
         ensures { IsTrue result
-            ↔ (size self.now.by_path + (size self.now.by_component + size by_extension.now) ≡ 0) }
+            ↔ (size self.now.by_path
+            + (size self.now.by_component + size (nfa_at self.now.extensions.nfas slot)) ≡ 0) }
     {
         self.by_path.state_count() == 0
             && self.by_component.state_count() == 0
-            && by_extension.state_count() == 0
+            && self.extensions.state_count(slot) == 0
     }
 
     /// Returns whether tokens match the part that they are run on of some path below a directory.

@@ -1,20 +1,15 @@
 //! The rows that automata keep from path to path.
 
-ghost use Rattle.std.specs.Prelude.{◌≡◌, ◌+◌, ◌*◌, ◌≤◌, ◌++◌, ◌∷◌, ◌↔◌, [], ℕ, List, length, None, Some, IsTrue, IsOk, OnOk, IfOk};
-ghost use Rattle.bit_sets.specs.Indexes.{index_capacity};
-ghost use Rattle.bit_sets.specs.Texts.{AllBytes};
+ghost use Rattle.std.specs.Prelude.{◌≡◌, ◌+◌, ◌*◌, ◌≤◌, ◌++◌, ◌∷◌, ◌↔◌, [], List, length, None, Some, IsTrue, IsOk, IfOk};
 ghost use Rattle.byte_nfa.specs.Runs.{size, max_reads};
 ghost use Rattle.byte_nfa.specs.Steps.{NfaValue};
-ghost use Rattle.glob_matching.specs.Matching.{AddsMatches, TellsMatch};
 ghost use Rattle.glob_strategy.specs.IndexedTokens.{IndexedTokens, IsFor, SomeMeanAfter};
 ghost use Rattle.lazy_dfa.specs.Sets.{sets_capacity};
-ghost use Rattle.set_matcher.specs.inner.Automata.{AutomataParts, before_extension};
+ghost use Rattle.set_matcher.specs.inner.Automata.{AutomataParts};
 ghost use Rattle.set_matcher.specs.inner.Caches.{AreCachesOf, IsCacheAt};
 
-use crate::path_part::{Part, matches_part, run};
-use bit_sets::{IndexSet, Visits};
+use bit_sets::Visits;
 use glob_matching::Compiled;
-use glob_path::PathParts;
 use lazy_dfa::{Cache, StateSets};
 use std::alloc::AllocError;
 use std::marker::Model;
@@ -72,7 +67,7 @@ fn bytes_of(cache: &Option<Cache>) -> usize {
 /// The rows of the automata of extensions, each at the slot of its automaton.
 pub(crate) struct SlotCaches {
     /// It is `None` if no automaton has rows.
-    caches: Option<Vec<Option<Cache>>>,
+    pub(crate) caches: Option<Vec<Option<Cache>>>,
 }
 
 impl Drop for SlotCaches {
@@ -118,92 +113,6 @@ impl SlotCaches {
             }
         }
         bytes
-    }
-
-    /// Like [`run`], on the bytes before the extension of the path, with the cache of the automaton's slot. Where there is no
-    /// slot, the automaton has no states.
-    pub fn run(
-        &mut self,
-        slot: Option<usize>,
-        automaton: &Compiled,
-        path: &PathParts<'_>,
-        sets: &mut StateSets,
-        marks: &mut IndexSet,
-        visits: &mut Visits,
-    ) -> Result<(), AllocError>
-        // The path consists of bytes, and the marks have room for each index. The slot's cache is of the automaton. Where there
-        // is no slot, the automaton has no states.
-        requires bytes { AllBytes path.now }
-        requires count { automaton.now.index_count ≤ index_capacity marks.old }
-        requires cache { (s : ℕ) → slot ≡ Some s → IsCacheAt self.old s automaton.now }
-        requires none { slot ≡ None → size automaton.now ≡ 0 }
-
-        // Each cache is of the same automaton afterwards, and the marks have the same room. After success the marks have the
-        // matching indexes in addition.
-        ensures caches { self.new ≡ self.old }
-        ensures room { index_capacity marks.new ≡ index_capacity marks.old }
-        ensures found { OnOk result
-            (AddsMatches automaton.now (before_extension path.now) marks.old marks.new) }
-
-        // The sets lose no room. Memory runs out only if they have too little room for the automaton's states.
-        ensures kept { sets_capacity sets.old ≤ sets_capacity sets.new }
-        ensures memory { size automaton.now ≤ sets_capacity sets.old → IsOk result }
-
-        // The number of visits never decreases, and its increase is bounded.
-        ensures visits { visits.new ≤ visits.old + (length path.now + 1) * max_reads automaton.now }
-        ensures counted { visits.old ≤ visits.new }
-    {
-        let Some(slot) = slot else {
-            return Ok(());
-        };
-        let part = Part::BeforeExtension;
-        if let Some(caches) = &mut self.caches {
-            if slot < caches.len() {
-                let cache = &mut caches[slot];
-                return run(part, automaton, path, sets, cache, marks, visits);
-            }
-        }
-        run(part, automaton, path, sets, &mut None, marks, visits)
-    }
-
-    /// Like [`matches_part`], on the bytes before the extension of the path, with the cache of the automaton's slot. Where there
-    /// is no slot, the automaton has no states.
-    pub fn matches(
-        &mut self,
-        slot: Option<usize>,
-        automaton: &Compiled,
-        path: &PathParts<'_>,
-        sets: &mut StateSets,
-        visits: &mut Visits,
-    ) -> Result<bool, AllocError>
-        // The path consists of bytes. The slot's cache is of the automaton. Where there is no slot, the automaton has no states.
-        requires bytes { AllBytes path.now }
-        requires cache { (s : ℕ) → slot ≡ Some s → IsCacheAt self.old s automaton.now }
-        requires none { slot ≡ None → size automaton.now ≡ 0 }
-
-        // Each cache is of the same automaton afterwards. The answer tells whether tokens match the bytes before the extension.
-        ensures caches { self.new ≡ self.old }
-        ensures some { IfOk result (TellsMatch automaton.now (before_extension path.now)) }
-
-        // The sets lose no room. Memory runs out only if they have too little room for the automaton's states.
-        ensures kept { sets_capacity sets.old ≤ sets_capacity sets.new }
-        ensures memory { size automaton.now ≤ sets_capacity sets.old → IsOk result }
-
-        // The number of visits never decreases, and its increase is bounded.
-        ensures visits { visits.new ≤ visits.old + (length path.now + 1) * max_reads automaton.now }
-        ensures counted { visits.old ≤ visits.new }
-    {
-        let Some(slot) = slot else {
-            return Ok(false);
-        };
-        let part = Part::BeforeExtension;
-        if let Some(caches) = &mut self.caches {
-            if slot < caches.len() {
-                let cache = &mut caches[slot];
-                return matches_part(part, automaton, path, sets, cache, visits);
-            }
-        }
-        matches_part(part, automaton, path, sets, &mut None, visits)
     }
 
     /// Like [`Compiled::can_match_after`], with the cache of the automaton's slot.

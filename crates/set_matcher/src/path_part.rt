@@ -20,7 +20,6 @@ use std::alloc::AllocError;
 pub enum Part {
     Path,
     LastComponent,
-    BeforeExtension,
 }
 
 impl Part {
@@ -31,7 +30,6 @@ impl Part {
         match self {
             Part::Path => path.path(),
             Part::LastComponent => path.last_component(),
-            Part::BeforeExtension => before_extension(path),
         }
     }
 }
@@ -110,7 +108,7 @@ pub fn matches_part(
 }
 
 /// Returns the bytes of a path before the extension of its last component.
-fn before_extension<'p>(path: &PathParts<'p>) -> &'p [u8]
+pub fn before_extension<'p>(path: &PathParts<'p>) -> &'p [u8]
     ensures { result.now ≡ before_extension path.now }
 {
     let bytes = path.path();

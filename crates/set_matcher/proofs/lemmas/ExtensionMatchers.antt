@@ -18,16 +18,11 @@ use Rattle.byte_keys.proofs.lemmas.Entries.{indexes_added}
 use Rattle.glob_syntax.specs.After.{MeanAfter}
 use Rattle.glob_strategy.specs.IndexedTokens.{SomeMeanAfter}
 use Rattle.glob_strategy.specs.IndexedTokens.{IndexedTokens, IsFor}
-use Rattle.set_matcher.specs.inner.Automata.{ExtensionParts, AreExtensionMatchers, AreFor, KeepsTokens, AddsTokens, SomeExtensionAfter, first, max_size, slot_of, tokens_under, total_reads, nfa_under}
+use Rattle.set_matcher.specs.inner.Automata.{ExtensionParts, AreExtensionMatchers, AreFor, KeepsTokens, AddsTokens, SomeExtensionAfter, first, max_size, nfa_at, nfa_under, no_nfa, slot_of, tokens_under, total_reads}
 use Rattle.set_matcher.proofs.lemmas.Tables.{first_in, under_push, first_push}
 
-abbrev pub extension_parts : List Entry → List NfaValue → NfaValue → ℕ → ExtensionParts
-extension_parts slots nfas none n = record {
-  slots = slots;
-  nfas = nfas;
-  none = none;
-  index_count = n;
-}
+abbrev pub extension_parts : List Entry → List NfaValue → ℕ → ExtensionParts
+extension_parts slots nfas n = record { slots = slots; nfas = nfas; index_count = n }
 
 equal_or_not : (a b : ℕ) → (a ≡ b) ⊎ (a ≢ b)
 equal_or_not a b = ⊎_elim {C = (a ≡ b) ⊎ (a ≢ b)} (λ y. inl y.1) (λ n. inr n.1) (eqb_tells a b)
@@ -55,37 +50,31 @@ pushed_at nfas m s d lt =
     (equal_or_not s (length nfas))
 
 -- what is true of the parts stays true
-pub matchers_push : (slots : List Entry) (nfas : List NfaValue) (none : NfaValue) (n : ℕ) (m : NfaValue) → m.index_count ≡ n → AreExtensionMatchers slots nfas none n → AreExtensionMatchers slots (nfas ++ m ∷ []) none n
-matchers_push slots nfas none n m is before = record {
+pub matchers_push : (slots : List Entry) (nfas : List NfaValue) (n : ℕ) (m : NfaValue) → m.index_count ≡ n → AreExtensionMatchers slots nfas n → AreExtensionMatchers slots (nfas ++ m ∷ []) n
+matchers_push slots nfas n m is before = record {
   held = λ extension s there.
       let lt = before.held extension s there in let len : length (nfas ++ m ∷ []) ≡ length nfas + 1 = length-append nfas (m ∷ []) in omega (arith, lt, len);
   apart = before.apart;
   counted = λ s d lt.
       ⊎_elim {C = (get_or (nfas ++ m ∷ []) s d).index_count ≡ n} (λ old. ap (λ (x : NfaValue). x.index_count) old.1 ∙ before.counted s d old.0)
       (λ new. ap (λ (x : NfaValue). x.index_count) new.1 ∙ is) (pushed_at nfas m s d lt);
-  none_counted = before.none_counted;
-  empty = before.empty;
-  for_none = before.for_none;
 }
 
 -- no extension has a slot
-pub matchers_cleared : (slots : List Entry) (nfas : List NfaValue) (none : NfaValue) (n : ℕ) → AreExtensionMatchers slots nfas none n → AreExtensionMatchers [] nfas none n
-matchers_cleared slots nfas none n before = record {
+pub matchers_cleared : (slots : List Entry) (nfas : List NfaValue) (n : ℕ) → AreExtensionMatchers slots nfas n → AreExtensionMatchers [] nfas n
+matchers_cleared slots nfas n before = record {
   held = λ extension s there. absurd there;
   apart = λ a b s of_a of_b. absurd (cc);
   counted = before.counted;
-  none_counted = before.none_counted;
-  empty = before.empty;
-  for_none = before.for_none;
 }
 
 -- ---- a new slot
 
 -- no other extension has it
-pub matchers_insert : (slots : List Entry) (nfas : List NfaValue) (none : NfaValue) (n : ℕ) (m : NfaValue) (key : List ℕ) (slot : ℕ) → m.index_count ≡ n → slot ≡ length nfas
-    → AreExtensionMatchers slots nfas none n → AreExtensionMatchers (slots ++ entry key slot ∷ []) (nfas ++ m ∷ []) none n
-matchers_insert slots nfas none n m key slot is at before =
-    let more = matchers_push slots nfas none n m is before in
+pub matchers_insert : (slots : List Entry) (nfas : List NfaValue) (n : ℕ) (m : NfaValue) (key : List ℕ) (slot : ℕ) → m.index_count ≡ n → slot ≡ length nfas
+    → AreExtensionMatchers slots nfas n → AreExtensionMatchers (slots ++ entry key slot ∷ []) (nfas ++ m ∷ []) n
+matchers_insert slots nfas n m key slot is at before =
+    let more = matchers_push slots nfas n m is before in
     let len : length (nfas ++ m ∷ []) ≡ length nfas + 1 = length-append nfas (m ∷ []) in record {
       held = λ extension s there.
           ⊎_elim {C = s < length (nfas ++ m ∷ [])} (λ old. more.held extension s old) (λ new. omega (arith, new, at, len)) (under_push slots key slot extension s there);
@@ -95,9 +84,6 @@ matchers_insert slots nfas none n m key slot is at before =
           (λ new_a. ⊎_elim {C = a ≡ b} (λ old_b. absurd (is_new b s old_b new_a.1)) (λ new_b. sym new_a.0 ∙ new_b.0) (first_push slots key slot b s of_b))
           (first_push slots key slot a s of_a);
       counted = more.counted;
-      none_counted = more.none_counted;
-      empty = more.empty;
-      for_none = more.for_none;
     }
   where
     is_new : (extension : List ℕ) (s : ℕ) → slot_of slots extension ≡ Some s → slot ≡ s → ⊥
@@ -112,7 +98,7 @@ first_new true n (x ∷ xs) now before none new same = same x (inl refl)
 first_new false n (x ∷ xs) now before none new same = same x (inl refl)
 
 -- no tokens are in it
-pub slot_keeps : (old new : ExtensionParts) (key : List ℕ) (n : ℕ) (m : NfaValue) → n ≡ length old.nfas → AreExtensionMatchers old.slots old.nfas old.none old.index_count → IsFor m []
+pub slot_keeps : (old new : ExtensionParts) (key : List ℕ) (n : ℕ) (m : NfaValue) → n ≡ length old.nfas → AreExtensionMatchers old.slots old.nfas old.index_count → IsFor m []
     → new.slots ≡ old.slots ++ entry key n ∷ [] → new.nfas ≡ old.nfas ++ m ∷ [] → (before : ℕ → List IndexedTokens) → AreFor old.nfas before → KeepsTokens old before new
 slot_keeps old new key n m at is_old empty slots nfas before are = record {
   tokens = replaced n [] before;
@@ -142,26 +128,25 @@ slot_keeps old new key n m at is_old empty slots nfas before are = record {
 
 -- ---- the reads of the automaton of an extension
 
-abbrev reads_at : List NfaValue → NfaValue → ℕ → ℕ
-reads_at nfas none s = max_reads (get_or nfas s none)
+abbrev reads_at : List NfaValue → ℕ → ℕ
+reads_at nfas s = max_reads (get_or nfas s (no_nfa 0))
 
-reads_of : (nfas : List NfaValue) (none : NfaValue) (o : Option ℕ) → max_reads (option_map_or (λ s. get_or nfas s none) o none) ≡ option_map_or (reads_at nfas none) o (max_reads none)
-reads_of nfas none None = refl
-reads_of nfas none (Some s) = refl
+reads_of : (nfas : List NfaValue) (o : Option ℕ) → max_reads (nfa_at nfas o) ≡ option_map_or (reads_at nfas) o 0
+reads_of nfas None = refl
+reads_of nfas (Some s) = refl
 
 -- a new slot has none
-pub slot_reads : (old new : ExtensionParts) (key : List ℕ) (n : ℕ) (m : NfaValue) → n ≡ length old.nfas → AreExtensionMatchers old.slots old.nfas old.none old.index_count → max_reads m ≡ 0
-    → new.slots ≡ old.slots ++ entry key n ∷ [] → new.nfas ≡ old.nfas ++ m ∷ [] → new.none ≡ old.none → (extension : List ℕ) → max_reads (nfa_under new extension) ≡ max_reads (nfa_under old extension)
-slot_reads old new key n m at is_old no_states slots nfas none extension =
-    reads_of new.nfas new.none (slot_of new.slots extension)
-    ∙ ap (λ ms. option_map_or (reads_at ms new.none) (slot_of new.slots extension) (max_reads new.none)) nfas
-    ∙ ap (λ d. option_map_or (reads_at (old.nfas ++ m ∷ []) d) (slot_of new.slots extension) (max_reads d)) none
-    ∙ ap (λ es. option_map_or (reads_at (old.nfas ++ m ∷ []) old.none) (slot_of es extension) (max_reads old.none)) slots
-    ∙ ap (λ xs. option_map_or (reads_at (old.nfas ++ m ∷ []) old.none) (first xs) (max_reads old.none)) (indexes_added old.slots key n extension)
-    ∙ first_new (bytes_eq key extension) n (indexes_under old.slots extension) (reads_at (old.nfas ++ m ∷ []) old.none) (reads_at old.nfas old.none) (max_reads old.none)
-    (ap max_reads (get_or_push old.nfas m old.none n (sym at)) ∙ no_states ∙ sym is_old.empty)
-    (λ t there. ap max_reads (get_or_append_left old.nfas (m ∷ []) old.none t (is_old.held extension t there)))
-    ∙ sym (reads_of old.nfas old.none (slot_of old.slots extension))
+pub slot_reads : (old new : ExtensionParts) (key : List ℕ) (n : ℕ) (m : NfaValue) → n ≡ length old.nfas → AreExtensionMatchers old.slots old.nfas old.index_count → max_reads m ≡ 0
+    → new.slots ≡ old.slots ++ entry key n ∷ [] → new.nfas ≡ old.nfas ++ m ∷ [] → (extension : List ℕ) → max_reads (nfa_under new extension) ≡ max_reads (nfa_under old extension)
+slot_reads old new key n m at is_old no_states slots nfas extension =
+    reads_of new.nfas (slot_of new.slots extension)
+    ∙ ap (λ ms. option_map_or (reads_at ms) (slot_of new.slots extension) 0) nfas
+    ∙ ap (λ es. option_map_or (reads_at (old.nfas ++ m ∷ [])) (slot_of es extension) 0) slots
+    ∙ ap (λ xs. option_map_or (reads_at (old.nfas ++ m ∷ [])) (first xs) 0) (indexes_added old.slots key n extension)
+    ∙ first_new (bytes_eq key extension) n (indexes_under old.slots extension) (reads_at (old.nfas ++ m ∷ [])) (reads_at old.nfas) 0
+    (ap max_reads (get_or_push old.nfas m (no_nfa 0) n (sym at)) ∙ no_states)
+    (λ t there. ap max_reads (get_or_append_left old.nfas (m ∷ []) (no_nfa 0) t (is_old.held extension t there)))
+    ∙ sym (reads_of old.nfas (slot_of old.slots extension))
 
 -- ---- the reads of all automata
 
@@ -206,9 +191,9 @@ set_at_slot nfas i m s d lt =
     (equal_or_not s i)
 
 -- what is true of the parts stays true
-pub matchers_set : (slots : List Entry) (nfas : List NfaValue) (none : NfaValue) (n i : ℕ) (m : NfaValue) → i < length nfas → m.index_count ≡ n → AreExtensionMatchers slots nfas none n
-    → AreExtensionMatchers slots (set nfas i m) none n
-matchers_set slots nfas none n i m lt is before =
+pub matchers_set : (slots : List Entry) (nfas : List NfaValue) (n i : ℕ) (m : NfaValue) → i < length nfas → m.index_count ≡ n → AreExtensionMatchers slots nfas n
+    → AreExtensionMatchers slots (set nfas i m) n
+matchers_set slots nfas n i m lt is before =
     let len : length (set nfas i m) ≡ length nfas = length-set nfas i m in record {
       held = λ extension s there. let within = before.held extension s there in omega (arith, within, len);
       apart = before.apart;
@@ -216,9 +201,6 @@ matchers_set slots nfas none n i m lt is before =
           ⊎_elim {C = (get_or (set nfas i m) s d).index_count ≡ n} (λ this. ap (λ (x : NfaValue). x.index_count) this.1 ∙ is)
           (λ other. ap (λ (x : NfaValue). x.index_count) other.1 ∙ before.counted s d (omega (arith, within, len)))
           (set_at_slot nfas i m s d lt);
-      none_counted = before.none_counted;
-      empty = before.empty;
-      for_none = before.for_none;
     }
 
 kept_at : (o : Option ℕ) (s : ℕ) (xs : List IndexedTokens) (before : ℕ → List IndexedTokens) → o ≢ Some s → option_map_or (replaced s xs before) o [] ≡ option_map_or before o []
@@ -226,7 +208,7 @@ kept_at None s xs before other = refl
 kept_at (Some t) s xs before other = replaced_other s xs before t (λ e. other (ap Some e))
 
 pub slot_adds : (old mid new : ExtensionParts) (key : List ℕ) (s : ℕ) (x : IndexedTokens) (d now : NfaValue)
-    → AreExtensionMatchers mid.slots mid.nfas mid.none mid.index_count → slot_of mid.slots key ≡ Some s → s < length mid.nfas → new.slots ≡ mid.slots → new.nfas ≡ set mid.nfas s now
+    → AreExtensionMatchers mid.slots mid.nfas mid.index_count → slot_of mid.slots key ≡ Some s → s < length mid.nfas → new.slots ≡ mid.slots → new.nfas ≡ set mid.nfas s now
     → ((xs : List IndexedTokens) → IsFor (get_or mid.nfas s d) xs → IsFor now (xs ++ x ∷ []))
     → (before : ℕ → List IndexedTokens) → KeepsTokens old before mid → AddsTokens old before new key x
 slot_adds old mid new key s x d now is_mid at lt slots nfas adds before kept = record {
@@ -294,29 +276,28 @@ any_default (m ∷ ms) zero d e lt = refl
 any_default (m ∷ ms) (suc s) d e lt = any_default ms s d e (omega (arith, lt))
 
 -- one automaton has at most so many reads more
-set_reads : (nfas : List NfaValue) (none : NfaValue) (s more : ℕ) (now : NfaValue) (o : Option ℕ) (b : Bool) → s < length nfas → max_reads now ≤ max_reads (get_or nfas s none) + more → (o ≡ Some s → b ≡ true)
-    → max_reads (option_map_or (λ t. get_or (set nfas s now) t none) o none) ≤ max_reads (option_map_or (λ t. get_or nfas t none) o none) + cond b more 0
-set_reads nfas none s more now None b lt few tells = omega arith
-set_reads nfas none s more now (Some t) b lt few tells =
-    ⊎_elim {C = max_reads (get_or (set nfas s now) t none) ≤ max_reads (get_or nfas t none) + cond b more 0}
+set_reads : (nfas : List NfaValue) (s more : ℕ) (now : NfaValue) (o : Option ℕ) (b : Bool) → s < length nfas → max_reads now ≤ max_reads (get_or nfas s (no_nfa 0)) + more → (o ≡ Some s → b ≡ true)
+    → max_reads (nfa_at (set nfas s now) o) ≤ max_reads (nfa_at nfas o) + cond b more 0
+set_reads nfas s more now None b lt few tells = omega arith
+set_reads nfas s more now (Some t) b lt few tells =
+    ⊎_elim {C = max_reads (get_or (set nfas s now) t (no_nfa 0)) ≤ max_reads (get_or nfas t (no_nfa 0)) + cond b more 0}
     (λ this.
     let b_is = ap (λ v. cond v more 0) (tells (ap Some this.0)) in
     let new = ap max_reads this.1 in
-    let old = ap (λ u. max_reads (get_or nfas u none)) this.0 in omega (arith, few, b_is, new, old))
+    let old = ap (λ u. max_reads (get_or nfas u (no_nfa 0))) this.0 in omega (arith, few, b_is, new, old))
     (λ other. let same = ap max_reads other.1 in omega (arith, same))
-    (set_at_slot nfas s now t none lt)
+    (set_at_slot nfas s now t (no_nfa 0) lt)
 
-pub slot_reads_added : (mid new : ExtensionParts) (key : List ℕ) (s more : ℕ) (d now : NfaValue) → AreExtensionMatchers mid.slots mid.nfas mid.none mid.index_count → slot_of mid.slots key ≡ Some s → s < length mid.nfas
-    → new.slots ≡ mid.slots → new.nfas ≡ set mid.nfas s now → new.none ≡ mid.none → max_reads now ≤ max_reads (get_or mid.nfas s d) + more
+pub slot_reads_added : (mid new : ExtensionParts) (key : List ℕ) (s more : ℕ) (d now : NfaValue) → AreExtensionMatchers mid.slots mid.nfas mid.index_count → slot_of mid.slots key ≡ Some s → s < length mid.nfas
+    → new.slots ≡ mid.slots → new.nfas ≡ set mid.nfas s now → max_reads now ≤ max_reads (get_or mid.nfas s d) + more
     → (extension : List ℕ) → max_reads (nfa_under new extension) ≤ max_reads (nfa_under mid extension) + cond (bytes_eq key extension) more 0
-slot_reads_added mid new key s more d now is_mid at lt slots nfas none few extension =
-    let is : max_reads (nfa_under new extension) ≡ max_reads (option_map_or (λ t. get_or (set mid.nfas s now) t mid.none) (slot_of mid.slots extension) mid.none) =
-    ap (λ es. max_reads (option_map_or (λ t. get_or new.nfas t new.none) (slot_of es extension) new.none)) slots
-    ∙ ap (λ ms. max_reads (option_map_or (λ t. get_or ms t new.none) (slot_of mid.slots extension) new.none)) nfas
-    ∙ ap (λ d. max_reads (option_map_or (λ t. get_or (set mid.nfas s now) t d) (slot_of mid.slots extension) d)) none in
-    let d_is = ap max_reads (any_default mid.nfas s d mid.none lt) in
-    let within : max_reads now ≤ max_reads (get_or mid.nfas s mid.none) + more = omega (arith, few, d_is) in
-    let le = set_reads mid.nfas mid.none s more now (slot_of mid.slots extension) (bytes_eq key extension) lt within (λ e. (bytes_decides key extension).1 (is_mid.apart key extension s at e)) in
+slot_reads_added mid new key s more d now is_mid at lt slots nfas few extension =
+    let is : max_reads (nfa_under new extension) ≡ max_reads (nfa_at (set mid.nfas s now) (slot_of mid.slots extension)) =
+    ap (λ es. max_reads (nfa_at new.nfas (slot_of es extension))) slots
+    ∙ ap (λ ms. max_reads (nfa_at ms (slot_of mid.slots extension))) nfas in
+    let d_is = ap max_reads (any_default mid.nfas s d (no_nfa 0) lt) in
+    let within : max_reads now ≤ max_reads (get_or mid.nfas s (no_nfa 0)) + more = omega (arith, few, d_is) in
+    let le = set_reads mid.nfas s more now (slot_of mid.slots extension) (bytes_eq key extension) lt within (λ e. (bytes_decides key extension).1 (is_mid.apart key extension s at e)) in
     omega (arith, is, le)
 
 -- ---- the automaton of a slot

@@ -2,17 +2,15 @@
 use Rattle.std.proofs.Common.{◌≡◌, ℕ, ◌+◌, ◌*◌, ◌≤◌, List, length, subst}
 use Rattle.bit_sets.specs.Texts.{AllBytes}
 use Rattle.set_matcher.specs.declared.path_part.Part.{Part}
-use Rattle.set_matcher.specs.declared.path_part.Part.TheVariants.{Path, LastComponent, BeforeExtension}
+use Rattle.set_matcher.specs.declared.path_part.Part.TheVariants.{Path, LastComponent}
 use Rattle.set_matcher.specs.inner.PathPart.{part_of}
-use Rattle.set_matcher.proofs.lemmas.Automata.{before_bytes, before_visits, component_bytes, component_visits}
+use Rattle.set_matcher.proofs.lemmas.Automata.{component_bytes, component_visits}
 
 pub part_bytes : (part : Part) (path : List ℕ) → AllBytes path → AllBytes (part_of part path)
 part_bytes Path path bytes = bytes
 part_bytes LastComponent path bytes = component_bytes path bytes
-part_bytes BeforeExtension path bytes = before_bytes path bytes
 
 -- the visits of a run over a part, within those of a run over the path
 pub part_visits : (part : Part) (path text : List ℕ) (n old new : ℕ) → text ≡ part_of part path → new ≤ old + (length text + 1) * n → new ≤ old + (length path + 1) * n
 part_visits Path path text n old new is few = subst (λ (t : List ℕ). new ≤ old + (length t + 1) * n) is few
 part_visits LastComponent path text n old new is few = component_visits path text n old new is few
-part_visits BeforeExtension path text n old new is few = before_visits path text n old new is few

@@ -21,11 +21,10 @@ use Rattle.glob_path.specs.PathParts.{last_component, component_extension}
 abbrev pub first : List ℕ → Option ℕ
 first indexes = slice_get indexes 0
 
--- For each such extension its slot, which is the position of an automaton; and an automaton without states for the others.
+-- for each such extension its slot, which is the position of an automaton
 pub record ExtensionParts : Type 0 where
   pub slots : List Entry
   pub nfas : List NfaValue
-  pub none : NfaValue
   pub index_count : ℕ
 
 -- the slot of an extension, if any
@@ -33,17 +32,13 @@ abbrev pub slot_of : List Entry → List ℕ → Option ℕ
 slot_of slots extension = first (indexes_under slots extension)
 
 -- the invariants of such a value's parts
-pub record AreExtensionMatchers (slots : List Entry) (nfas : List NfaValue) (none : NfaValue) (n : ℕ) : Type 0 where
+pub record AreExtensionMatchers (slots : List Entry) (nfas : List NfaValue) (n : ℕ) : Type 0 where
   -- each slot is a position of an automaton
   pub held : (extension : List ℕ) (s : ℕ) → HasNumber s (indexes_under slots extension) → s < length nfas
   -- no two extensions have the same slot
   pub apart : (a b : List ℕ) (s : ℕ) → slot_of slots a ≡ Some s → slot_of slots b ≡ Some s → a ≡ b
   -- each automaton names indexes below n
   pub counted : (s : ℕ) (d : NfaValue) → s < length nfas → (get_or nfas s d).index_count ≡ n
-  pub none_counted : none.index_count ≡ n
-  -- the automaton for the others has no states
-  pub empty : max_reads none ≡ 0
-  pub for_none : IsFor none []
 
 -- each automaton is for the tokens of its slot
 abbrev pub AreFor : List NfaValue → (ℕ → List IndexedTokens) → Type 0
@@ -53,13 +48,17 @@ AreFor nfas tokens = (s : ℕ) (d : NfaValue) → s < length nfas → IsFor (get
 abbrev pub tokens_under : (ℕ → List IndexedTokens) → List Entry → List ℕ → List IndexedTokens
 tokens_under tokens slots extension = option_map_or tokens (slot_of slots extension) []
 
+-- an automaton without states, whose indexes would be below n
+abbrev pub no_nfa : ℕ → NfaValue
+no_nfa n = record { states = []; starts = []; index_count = n }
+
 -- the automaton of a slot, or an automaton without states
-abbrev pub nfa_at : ExtensionParts → Option ℕ → NfaValue
-nfa_at e slot = option_map_or (λ s. get_or e.nfas s e.none) slot e.none
+abbrev pub nfa_at : List NfaValue → Option ℕ → NfaValue
+nfa_at nfas slot = option_map_or (λ s. get_or nfas s (no_nfa 0)) slot (no_nfa 0)
 
 -- the automaton of an extension; an automaton without states if it has no slot
 abbrev pub nfa_under : ExtensionParts → List ℕ → NfaValue
-nfa_under e extension = nfa_at e (slot_of e.slots extension)
+nfa_under e extension = nfa_at e.nfas (slot_of e.slots extension)
 
 -- the tokens of some slot below n match some text that begins with y
 abbrev pub SomeExtensionAfter : ℕ → (ℕ → List IndexedTokens) → List ℕ → Type 0
@@ -174,17 +173,13 @@ pub record IsFoundSet (a : AutomataParts) (path : List ℕ) (found : IndexSet) :
 
 -- ---- where no glob needs an automaton
 
--- an automaton without states
-abbrev pub no_nfa : ℕ → NfaValue
-no_nfa n = record { states = []; starts = []; index_count = n }
-
 -- Where no glob needs an automaton, none is made, and contracts see these: they have no states, and no extension has a slot. The
 -- number that each index is below is n.
 abbrev pub no_automata : ℕ → AutomataParts
 no_automata n = record {
   by_path = no_nfa n;
   by_component = no_nfa n;
-  extensions = record { slots = []; nfas = []; none = no_nfa n; index_count = n };
+  extensions = record { slots = []; nfas = []; index_count = n };
 }
 
 -- the automata, or those without states if none are made

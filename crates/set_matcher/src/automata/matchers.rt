@@ -1,23 +1,27 @@
 //! Automata for globs that match only paths whose last component has a given extension.
 
 ghost use Rattle.std.specs.Prelude.{◌≡◌, ◌+◌, ◌*◌, ◌<◌, ◌≤◌, ◌↔◌, ◌++◌, ◌∷◌, [], ℕ, List, length, IsTrue, IsOk, OnOk, IfOk, None, Some, OnErr};
+ghost use Rattle.bit_sets.specs.Indexes.{index_capacity};
+ghost use Rattle.bit_sets.specs.Texts.{AllBytes};
 ghost use Rattle.byte_nfa.specs.Runs.{size, max_reads};
 ghost use Rattle.lazy_dfa.specs.Sets.{sets_capacity};
-ghost use Rattle.std.specs.Option.{option_map_or};
-ghost use Rattle.glob_strategy.specs.IndexedTokens.{IndexedTokens, IsFor, indexed};
+ghost use Rattle.glob_matching.specs.Matching.{AddsMatches, TellsMatch};
+ghost use Rattle.glob_strategy.specs.IndexedTokens.{IndexedTokens, indexed};
 ghost use Rattle.glob_syntax.specs.FlatTokens.{IsNested};
 ghost use Rattle.glob_syntax.specs.Views.{flats, tokens_of};
 ghost use Rattle.glob_syntax.specs.inner.Weight.{weight};
-ghost use Rattle.set_matcher.specs.inner.Automata.{AddsReads, AddsTokensTo, AreFor, KeepsTokens, TellsSomeAfter, nfa_at, nfa_under, max_size, slot_of, total_reads};
+ghost use Rattle.set_matcher.specs.inner.Automata.{AddsReads, AddsTokensTo, AreFor, KeepsTokens, TellsSomeAfter, before_extension, nfa_at, nfa_under, max_size, slot_of, total_reads};
 ghost use Rattle.set_matcher.specs.inner.Caches.{AreSlotCaches};
 ghost use Rattle.byte_keys.specs.Entries.{entry};
 ghost use Rattle.set_matcher.specs.inner.ExtensionSlots.{HasSlots};
 
 use crate::caches::SlotCaches;
-use bit_sets::Visits;
+use crate::path_part::before_extension;
+use bit_sets::{IndexSet, Visits};
 use byte_keys::{Table, TableBuilder};
 use byte_nfa::Builder;
 use glob_matching::Compiled;
+use glob_path::PathParts;
 use glob_strategy::{add_tokens, new_builder};
 use glob_syntax::{Options, Token};
 use lazy_dfa::StateSets;
@@ -30,7 +34,6 @@ use std::marker::Model;
 pub struct ExtensionMatchers {
     slots: Table,
     automata: Vec<Compiled>,
-    none: Compiled,
     index_count: usize,
 }
 
@@ -42,11 +45,10 @@ impl Model for ExtensionMatchers {
     ghost view = { λ e. record {
       slots = e.slots;
       nfas = e.automata.items;
-      none = e.none;
       index_count = e.index_count;
     } };
 
-    ghost invariant = { λ e. AreExtensionMatchers e.slots e.automata.items e.none e.index_count };
+    ghost invariant = { λ e. AreExtensionMatchers e.slots e.automata.items e.index_count };
 }
 
 impl ExtensionMatchers {
@@ -103,30 +105,33 @@ impl ExtensionMatchers {
         }
     }
 
-    /// Returns the automaton of a slot, or an automaton without states if there is none.
-    pub fn automaton_at(&self, slot: Option<usize>) -> &Compiled
-        // The slot, if there is any, is the position of an automaton.
-        requires { (s : ℕ) → slot ≡ Some s → s < length self.now.nfas }
-        ensures automaton { result.now ≡ nfa_at self.now slot }
+    /// Returns the automaton of a slot.
+    fn automaton_at(&self, slot: usize) -> &Compiled
+        requires { slot < length self.now.nfas }
+        ensures automaton { result.now ≡ nfa_at self.now.nfas (Some slot) }
 
         // The automaton has no more states than the largest one, and its indexes are below the same number as those of all.
         ensures maximum { size result.now ≤ max_size self.now.nfas }
         ensures count { result.now.index_count ≡ self.now.index_count }
+    {
+        &self.automata[slot]
+    }
 
-        // The automaton is for the tokens of the slot. Without a slot it is for no tokens, and has no states.
-        ensures tokens { (by_slot : ℕ → List IndexedTokens) → AreFor self.now.nfas by_slot
-            → IsFor result.now (option_map_or by_slot slot []) }
-        ensures none { slot ≡ None → size result.now ≡ 0 }
+    /// Returns the number of states of the automaton of a slot, or 0 if there is no slot.
+    pub fn state_count(&self, slot: Option<usize>) -> usize
+        // The slot, if there is any, is the position of an automaton.
+        requires { (s : ℕ) → slot ≡ Some s → s < length self.now.nfas }
+        ensures { result ≡ size (nfa_at self.now.nfas slot) }
     {
         match slot {
-            Some(at) => &self.automata[at],
-            None => &self.none,
+            Some(slot) => self.automaton_at(slot).state_count(),
+            None => 0,
         }
     }
 
     /// Returns caches with no rows for the automata that need any. Runs with them allocate nothing for rows.
     pub fn new_caches(&self, alloc: Global) -> Result<SlotCaches, AllocError>
-        ensures { IfOk result (λ caches. AreSlotCaches self.now.nfas self.now.none caches) }
+        ensures { IfOk result (λ caches. AreSlotCaches self.now.nfas caches) }
     {
         if !self.have_rows() {
             return Ok(SlotCaches::none());
@@ -150,6 +155,98 @@ impl ExtensionMatchers {
 }
 
 impl ExtensionMatchers {
+    /// Marks the indexes of the globs of a slot whose tokens match the bytes before the extension of the path, beside those that
+    /// are marked. Without a slot there are none.
+    pub fn find(
+        &self,
+        slot: Option<usize>,
+        path: &PathParts<'_>,
+        sets: &mut StateSets,
+        caches: &mut SlotCaches,
+        marks: &mut IndexSet,
+        visits: &mut Visits,
+    ) -> Result<(), AllocError>
+        // The slot, if there is any, is the position of an automaton. The path consists of bytes, and the marks have room for each
+        // index. Each cache is of the automaton that it is used with.
+        requires slot { (s : ℕ) → slot ≡ Some s → s < length self.now.nfas }
+        requires bytes { AllBytes path.now }
+        requires count { self.now.index_count ≤ index_capacity marks.old }
+        requires caches { AreSlotCaches self.now.nfas caches.old }
+
+        // Each cache is of the same automaton afterwards, and the marks have the same room. After success the marks have the
+        // matching indexes in addition.
+        ensures caches { caches.new ≡ caches.old }
+        ensures room { index_capacity marks.new ≡ index_capacity marks.old }
+        ensures found { OnOk result
+            (AddsMatches (nfa_at self.now.nfas slot) (before_extension path.now) marks.old marks.new) }
+
+        // The sets lose no room. Memory runs out only if they have too little room for the largest automaton.
+        ensures kept { sets_capacity sets.old ≤ sets_capacity sets.new }
+        ensures memory { max_size self.now.nfas ≤ sets_capacity sets.old → IsOk result }
+
+        // The number of visits never decreases, and its increase is bounded.
+        ensures visits { visits.new
+            ≤ visits.old + (length path.now + 1) * max_reads (nfa_at self.now.nfas slot) }
+        ensures counted { visits.old ≤ visits.new }
+    {
+        let Some(slot) = slot else {
+            return Ok(());
+        };
+        let automaton = self.automaton_at(slot);
+        let text = before_extension(path);
+        if let Some(caches) = &mut caches.caches {
+            if slot < caches.len() {
+                let cache = &mut caches[slot];
+                return automaton.find(text, sets, cache, marks, visits);
+            }
+        }
+        automaton.find(text, sets, &mut None, marks, visits)
+    }
+
+    /// Returns whether tokens of a slot match the bytes before the extension of the path. Without a slot there are none.
+    pub fn is_match(
+        &self,
+        slot: Option<usize>,
+        path: &PathParts<'_>,
+        sets: &mut StateSets,
+        caches: &mut SlotCaches,
+        visits: &mut Visits,
+    ) -> Result<bool, AllocError>
+        // The slot, if there is any, is the position of an automaton. The path consists of bytes. Each cache is of the automaton
+        // that it is used with.
+        requires slot { (s : ℕ) → slot ≡ Some s → s < length self.now.nfas }
+        requires bytes { AllBytes path.now }
+        requires caches { AreSlotCaches self.now.nfas caches.old }
+
+        // Each cache is of the same automaton afterwards. The answer tells whether tokens match the bytes before the extension.
+        ensures caches { caches.new ≡ caches.old }
+        ensures some { IfOk result
+            (TellsMatch (nfa_at self.now.nfas slot) (before_extension path.now)) }
+
+        // The sets lose no room. Memory runs out only if they have too little room for the states of the slot.
+        ensures kept { sets_capacity sets.old ≤ sets_capacity sets.new }
+        ensures memory { size (nfa_at self.now.nfas slot) ≤ sets_capacity sets.old → IsOk result }
+        ensures room { max_size self.now.nfas ≤ sets_capacity sets.old → IsOk result }
+
+        // The number of visits never decreases, and its increase is bounded.
+        ensures visits { visits.new
+            ≤ visits.old + (length path.now + 1) * max_reads (nfa_at self.now.nfas slot) }
+        ensures counted { visits.old ≤ visits.new }
+    {
+        let Some(slot) = slot else {
+            return Ok(false);
+        };
+        let automaton = self.automaton_at(slot);
+        let text = before_extension(path);
+        if let Some(caches) = &mut caches.caches {
+            if slot < caches.len() {
+                let cache = &mut caches[slot];
+                return automaton.is_match(text, sets, cache, visits);
+            }
+        }
+        automaton.is_match(text, sets, &mut None, visits)
+    }
+
     /// Returns whether tokens of some extension match a text that begins with `text` and then `byte`.
     ///
     /// It is at most `(text bytes + 2) * (states + 3 * starts)` visits of each automaton. The runs use the same sets of states in
@@ -163,7 +260,7 @@ impl ExtensionMatchers {
         visits: &mut Visits,
     ) -> Result<bool, AllocError>
         // Each cache is of the automaton that it is used with, before and after the call. The answer is right.
-        requires { AreSlotCaches self.now.nfas self.now.none caches.old }
+        requires { AreSlotCaches self.now.nfas caches.old }
         ensures caches { caches.new ≡ caches.old }
         ensures some { IfOk result (λ yes. TellsSomeAfter self.now (text.now ++ byte ∷ []) yes) }
 
@@ -190,7 +287,6 @@ impl ExtensionMatchers {
 pub struct ExtensionMatchersBuilder {
     slots: ExtensionSlots,
     builders: Vec<Builder>,
-    none: Builder,
     index_count: usize,
 }
 
@@ -202,11 +298,10 @@ impl Model for ExtensionMatchersBuilder {
     ghost view = { λ e. record {
       slots = e.slots;
       nfas = e.builders.items;
-      none = e.none;
       index_count = e.index_count;
     } };
 
-    ghost invariant = { λ e. AreExtensionMatchers e.slots e.builders.items e.none e.index_count };
+    ghost invariant = { λ e. AreExtensionMatchers e.slots e.builders.items e.index_count };
 }
 
 impl ExtensionMatchersBuilder {
@@ -215,12 +310,10 @@ impl ExtensionMatchersBuilder {
         ensures slots { result.slots ≡ [] }
         ensures nfas { result.nfas ≡ [] }
         ensures count { result.index_count ≡ index_count }
-        ensures none { max_reads result.none ≡ 0 }
     {
         ExtensionMatchersBuilder {
             slots: ExtensionSlots::new(alloc),
             builders: Vec::new(alloc),
-            none: new_builder(alloc, index_count),
             index_count,
         }
     }
@@ -323,13 +416,11 @@ impl ExtensionMatchersBuilder {
         let ExtensionMatchersBuilder {
             slots,
             builders,
-            none,
             index_count,
         } = self;
         Ok(ExtensionMatchers {
             slots: slots.build()?,
             automata: finished(alloc, dfa_size_limit, all_states, builders)?,
-            none: Compiled::new(alloc, dfa_size_limit, none.finish(), 0)?,
             index_count,
         })
     }

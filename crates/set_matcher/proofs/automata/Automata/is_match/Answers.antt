@@ -4,9 +4,9 @@ use Rattle.std.proofs.lemmas.Result.{IfOk-weaker}
 use Rattle.byte_nfa.specs.Runs.{max_reads}
 use Rattle.glob_strategy.specs.IndexedTokens.{IndexedTokens, SomeMatches, IsFor}
 use Rattle.glob_path.specs.PathParts.{component_extension}
-use Rattle.set_matcher.specs.inner.Automata.{AutomataParts, TokenLists, AreForLists, AreFound, before_extension, nfa_under, tokens_under}
+use Rattle.set_matcher.specs.inner.Automata.{AutomataParts, TokenLists, AreForLists, AreFound, before_extension, nfa_at, nfa_under, tokens_under}
 use Rattle.set_matcher.proofs.lemmas.Automata.{last_run}
-use Rattle.set_matcher.proofs.lemmas.Slots.{cache_by_slot, nfa_by_slot, tokens_by_slot}
+use Rattle.set_matcher.proofs.lemmas.Slots.{nfa_by_slot, tokens_by_slot}
 use Rattle.set_matcher.proofs.lemmas.Visits.{three_runs, two_runs}
 use Rattle.set_matcher.proofs.automata.Automata.is_match.Goals as goal
 
@@ -25,8 +25,8 @@ returns-then-branch-2-clause-some c = λ t are.
 pub returns-clause-some : goal.returns-clause-some
 returns-clause-some c =
     let path = c.args.path.now in
-    let automaton = c.automaton_at-by_extension.result.now in
-    IfOk-weaker c.matches.result (λ yes. (xs : List IndexedTokens) → IsFor automaton xs → IsTrue yes ↔ ((k : ℕ) × SomeMatches xs (before_extension path) k))
+    let automaton = nfa_at c.self.inside.extensions.nfas c.slot_of-slot.result in
+    IfOk-weaker c.is_match.result (λ yes. (xs : List IndexedTokens) → IsFor automaton xs → IsTrue yes ↔ ((k : ℕ) × SomeMatches xs (before_extension path) k))
     (λ yes. (t : TokenLists) → AreForLists c.args.self.now t → IsTrue yes ↔ ((k : ℕ) × AreFound c.args.self.now.extensions.slots t path k))
     (λ yes tells t are.
     let by_path = subst (λ (a : AutomataParts). IsFor a.by_path t.by_path) (sym c.self.view_is) are.path in
@@ -37,8 +37,8 @@ returns-clause-some c =
     (λ k some.
     let found = (c.in_ok-matches_part-2.ensures.some t.by_component by_component).1 (k, some) in
     true≢false (sym found ∙ c.if-branch-2.false))
-    (tells extension_tokens (tokens_by_slot c.automaton_at-by_extension.result.now (component_extension path) t.by_slot c.self.view_is c.automaton_at-by_extension.ensures.tokens c.slot_of-slot.ensures.slot are.matchers)))
-    c.matches.ensures.some
+    (tells extension_tokens (tokens_by_slot c.slot_of-slot.result (component_extension path) t.by_slot c.self.view_is c.slot_of-slot.ensures.held c.slot_of-slot.ensures.slot are.matchers)))
+    c.is_match.ensures.some
 
 pub returns-in_err-matches_part-2-clause-visits : goal.returns-in_err-matches_part-2-clause-visits
 returns-in_err-matches_part-2-clause-visits c =
@@ -61,11 +61,8 @@ returns-clause-visits c =
     let a = c.args.self.now in
     let path = c.args.path.now in
     three_runs (length path) (length path) (length path) (length path) (max_reads a.by_path) (max_reads c.self.inside.by_path) (max_reads a.by_component)
-    (max_reads (nfa_under a.extensions (component_extension path))) (max_reads c.automaton_at-by_extension.result.now) c.args.visits.now c.matches_part.new.visits c.matches_part-2.new.visits
-    c.slot_of-slot.new.visits c.matches.new.visits
+    (max_reads (nfa_under a.extensions (component_extension path))) (max_reads (nfa_at c.self.inside.extensions.nfas c.slot_of-slot.result)) c.args.visits.now c.matches_part.new.visits c.matches_part-2.new.visits
+    c.slot_of-slot.new.visits c.is_match.new.visits
     refl refl refl (ap (λ (p : AutomataParts). max_reads p.by_path) c.self.view_is)
-    (ap max_reads (nfa_by_slot (component_extension path) c.self.view_is c.automaton_at-by_extension.ensures.automaton c.slot_of-slot.ensures.slot))
-    c.matches_part.ensures.visits (subst (λ (p : AutomataParts). c.matches_part-2.new.visits ≤ c.matches_part.new.visits + (length path + 1) * max_reads p.by_component) c.self.view_is c.matches_part-2.ensures.visits) c.slot_of-slot.ensures.visits c.matches.ensures.visits
-
-pub matches-requires-clause-cache : goal.matches-requires-clause-cache
-matches-requires-clause-cache c = cache_by_slot c.args.caches.now.by_slot c.self.view_is c.automaton_at-by_extension.ensures.automaton c.requires.caches.slots
+    (ap max_reads (nfa_by_slot (component_extension path) c.self.view_is c.slot_of-slot.ensures.slot))
+    c.matches_part.ensures.visits (subst (λ (p : AutomataParts). c.matches_part-2.new.visits ≤ c.matches_part.new.visits + (length path + 1) * max_reads p.by_component) c.self.view_is c.matches_part-2.ensures.visits) c.slot_of-slot.ensures.visits c.is_match.ensures.visits

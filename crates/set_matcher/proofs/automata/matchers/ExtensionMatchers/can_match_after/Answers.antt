@@ -1,7 +1,7 @@
 use Rattle.std.proofs.Common.{◌≡◌, ◌+◌, ◌*◌, ◌<◌, ◌≤◌, ◌++◌, ◌∷◌, [], List, get_or, length, refl, ap, sym, subst, ◌∙◌, true≢false, arith}
 use Rattle.std.proofs.lemmas.List.{take_all}
 use Rattle.byte_nfa.specs.Steps.{NfaValue}
-use Rattle.set_matcher.specs.inner.Automata.{ExtensionParts, total_reads}
+use Rattle.set_matcher.specs.inner.Automata.{ExtensionParts, no_nfa, total_reads}
 use Rattle.set_matcher.specs.inner.Caches.{IsCacheAt}
 use Rattle.set_matcher.proofs.lemmas.ExtensionMatchers.{any_default, is_for, none_limit, size_within, visits_more, visits_within}
 use Rattle.set_matcher.proofs.automata.matchers.ExtensionMatchers.can_match_after.Goals as goal
@@ -106,4 +106,4 @@ can_match_after-requires c =
     let same : c.deref-automaton-items.result.now ≡ nfas = c.deref-automaton-items.ensures.value ∙ ap (λ (e : ExtensionParts). e.nfas) c.self.view_is in
     let lt : i < length nfas = omega (arith, c.loop-slot-test.true, ap length same) in
     let is = subst (λ (ms : List NfaValue). m ≡ get_or ms i m) same c.automaton-item.is in
-    subst (λ cs. IsCacheAt cs i m) (sym c.loop-slot.invariant.caches) (subst (IsCacheAt c.args.caches.now i) (sym (is ∙ any_default nfas i m c.args.self.now.none lt)) (c.requires i))
+    subst (λ cs. IsCacheAt cs i m) (sym c.loop-slot.invariant.caches) (subst (IsCacheAt c.args.caches.now i) (sym (is ∙ any_default nfas i m (no_nfa 0) lt)) (c.requires i))

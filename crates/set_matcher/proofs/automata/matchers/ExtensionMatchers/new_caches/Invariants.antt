@@ -6,5 +6,5 @@ use Rattle.set_matcher.proofs.automata.matchers.ExtensionMatchers.new_caches.Giv
 abbrev pub invariant-loop-automaton : goal.invariant-loop-automaton
 invariant-loop-automaton l = record {
   len : length l.caches.items ≡ l.automaton-index;
-  are : AreSlotCaches l.self.nfas l.self.none l.caches.items;
+  are : AreSlotCaches l.self.nfas l.caches.items;
 }

@@ -34,14 +34,14 @@ invariant_of-self c =
     let lt = c.self.invariant.held c.args.key.items slot (first_in (indexes_under c.self.inside.slots c.args.key.items) slot at) in
     let count : c.index_mut.result.now.index_count ≡ c.self.inside.index_count =
     ap (λ (m : NfaValue). m.index_count) c.index_mut.ensures.value ∙ c.self.invariant.counted slot c.index_mut.result.now lt in
-    matchers_set c.self.inside.slots c.self.inside.builders.items c.self.inside.none c.self.inside.index_count slot c.add_tokens.new.builder lt (c.add_tokens.ensures.index_count ∙ count) c.self.invariant
+    matchers_set c.self.inside.slots c.self.inside.builders.items c.self.inside.index_count slot c.add_tokens.new.builder lt (c.add_tokens.ensures.index_count ∙ count) c.self.invariant
 
 pub returns-clause-tokens : goal.returns-clause-tokens
 returns-clause-tokens c =
     let slot = c.in_ok-slot.slot in
     let nfas = c.self.inside.builders.items in
-    let mid = extension_parts c.self.inside.slots nfas c.self.inside.none c.self.inside.index_count in
-    let new = extension_parts c.self.inside.slots (set nfas slot c.add_tokens.new.builder) c.self.inside.none c.self.inside.index_count in
+    let mid = extension_parts c.self.inside.slots nfas c.self.inside.index_count in
+    let new = extension_parts c.self.inside.slots (set nfas slot c.add_tokens.new.builder) c.self.inside.index_count in
     let at : slot_of c.self.inside.slots c.args.key.items ≡ Some slot = ap (λ (e : ExtensionParts). slot_of e.slots c.args.key.items) c.self.view_is ∙ c.in_ok-slot.ensures.slot in
     let lt = c.self.invariant.held c.args.key.items slot (first_in (indexes_under c.self.inside.slots c.args.key.items) slot at) in
     on_ok_weaker c.add_tokens.result
@@ -56,8 +56,8 @@ returns-clause-reads c =
     let slot = c.in_ok-slot.slot in
     let nfas = c.self.inside.builders.items in
     let more = weight c.args.options (tokens_of c.args.tokens.now) + 4 in
-    let mid = extension_parts c.self.inside.slots nfas c.self.inside.none c.self.inside.index_count in
-    let new = extension_parts c.self.inside.slots (set nfas slot c.add_tokens.new.builder) c.self.inside.none c.self.inside.index_count in
+    let mid = extension_parts c.self.inside.slots nfas c.self.inside.index_count in
+    let new = extension_parts c.self.inside.slots (set nfas slot c.add_tokens.new.builder) c.self.inside.index_count in
     let at : slot_of c.self.inside.slots c.args.key.items ≡ Some slot = ap (λ (e : ExtensionParts). slot_of e.slots c.args.key.items) c.self.view_is ∙ c.in_ok-slot.ensures.slot in
     let lt = c.self.invariant.held c.args.key.items slot (first_in (indexes_under c.self.inside.slots c.args.key.items) slot at) in
     on_ok_weaker c.add_tokens.result
@@ -66,7 +66,7 @@ returns-clause-reads c =
     ap (λ (e : ExtensionParts). max_reads (nfa_under e extension)) c.self.view_is ∙ c.in_ok-slot.ensures.reads extension in
     let value = ap max_reads c.index_mut.ensures.value in
     let within : max_reads c.add_tokens.new.builder ≤ max_reads (get_or nfas slot c.index_mut.result.now) + more = omega (arith, few, value) in
-    let added = slot_reads_added mid new c.args.key.items slot more c.index_mut.result.now c.add_tokens.new.builder c.self.invariant at lt refl refl refl within extension in omega (arith, kept, added))
+    let added = slot_reads_added mid new c.args.key.items slot more c.index_mut.result.now c.add_tokens.new.builder c.self.invariant at lt refl refl within extension in omega (arith, kept, added))
     c.add_tokens.ensures.reads
 
 pub returns-clause-total : goal.returns-clause-total
