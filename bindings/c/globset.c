@@ -1,11 +1,10 @@
 /* globset.c: the functions of globset.h, over the proved ones of globset_raw.h. This file is read and tested, and not
  * proved.
  *
- * It tests pointers for null, passes texts and objects on, and turns statuses into results. A pointer to a glob, a set,
- * a builder, a searcher or a walk is the address in the raw handle of the object. That address stays the same: globs
- * and sets are lent alone, and the calls on builders, searchers and walks reach the object through the handle, which
- * they do not write (`Owned::as_mut` in crates/globset_c). Only calls that take a work write a handle, so a matcher is
- * a struct that keeps the handles of its two objects. */
+ * It tests pointers for null, passes texts and objects on, and turns statuses into results. A pointer to an object is
+ * the address in its raw handle. That address stays the same: globs, matchers, sets and answers are lent alone, and the
+ * calls on the others reach the object through the handle, which they do not write (`Owned::as_mut` in
+ * crates/globset_c). */
 #include "globset_raw.h"
 
 #include "allocator.h"
@@ -210,61 +209,37 @@ void globset_glob_free(globset_glob *glob) {
 
 /* ---- Matchers ---- */
 
-/* The first word tells a matcher from the objects of the library, which begin with a small number. */
-struct globset_matcher {
-    uint64_t kind;
-    globset_owned matcher;
-    globset_owned work;
-};
-static const uint64_t MATCHER_KIND = UINT64_C(0xf1f2f3f4f5f6f7f8);
-
-static int fill_matcher(globset_matcher *matcher, const globset_glob *glob) {
-    globset_lent lent = lend(glob);
-    globset_status status = globset_raw_matcher_new(&lent, &matcher->matcher);
-    if (status == GLOBSET_DONE) status = globset_raw_work_new(&matcher->work);
-    if (status != GLOBSET_DONE) return result_of(status);
-    lent = lend(matcher->matcher.at);
-    return result_of(globset_raw_work_fit(&matcher->work, &lent));
-}
-
+/* To globset.h, what matches as one glob is a searcher of a matcher. The matcher is freed, since the searcher has all
+ * that it needs. */
 int globset_matcher_new(const globset_glob *glob, globset_matcher **matcher) {
-    struct rattle_block block;
-    globset_matcher *made;
-    int result;
+    globset_lent lent = lend(glob);
+    globset_owned raw = own(NULL), made = own(NULL);
+    globset_status status;
     if (matcher == NULL) return GLOBSET_ENULL;
     *matcher = NULL;
     if (glob == NULL) return GLOBSET_ENULL;
-    block = rattle_alloc(sizeof *made, sizeof(uint64_t));
-    if (!block.ok) return GLOBSET_ENOMEM;
-    made = block.at;
-    made->kind = MATCHER_KIND;
-    made->matcher = own(NULL);
-    made->work = own(NULL);
-    result = fill_matcher(made, glob);
-    if (result == GLOBSET_OK)
-        *matcher = made;
-    else
-        globset_matcher_free(made);
-    return result;
+    status = globset_raw_matcher_new(&lent, &raw);
+    if (status != GLOBSET_DONE) return result_of(status);
+    lent = lend(raw.at);
+    status = globset_raw_matcher_searcher_new(&lent, &made);
+    free_object(raw.at);
+    *matcher = made.at;
+    return result_of(status);
 }
 
 int globset_matcher_is_match(globset_matcher *matcher, const char *path, size_t length) {
+    globset_owned owned = own(matcher);
     struct bytes bytes;
-    globset_lent lent;
     int result = find_bytes(path, length, &bytes);
     if (matcher == NULL) return GLOBSET_ENULL;
     if (result != GLOBSET_OK) return result;
-    if (matcher->kind != MATCHER_KIND) return GLOBSET_EKIND;
-    lent = lend(matcher->matcher.at);
-    return result_of(globset_raw_matcher_is_match(&lent, &matcher->work, bytes.at, bytes.length));
+    return result_of(globset_raw_matcher_searcher_is_match(&owned, bytes.at, bytes.length));
 }
 
 void globset_matcher_free(globset_matcher *matcher) {
-    if (matcher == NULL || matcher->kind != MATCHER_KIND) return;
-    free_object(matcher->matcher.at);
-    free_object(matcher->work.at);
-    matcher->kind = 0;
-    rattle_dealloc(matcher);
+    globset_owned owned = own(matcher);
+    if (matcher != NULL && globset_raw_matcher_searcher_is_match(&owned, no_room, 0) != GLOBSET_WRONG_KIND)
+        free_object(matcher);
 }
 
 /* ---- Builders ---- */

@@ -6,8 +6,8 @@
  * no pointer is null. The bits of options, the kinds of errors, the domains, which match decides, what decides about a
  * path and the two numbers of the version are those of globset.h.
  *
- * Objects. A glob, a matcher, a builder, a set, a work, a searcher, answers and an ignore (a walk with its ignore files)
- * are objects on the heap. A handle is a struct of one pointer.
+ * Objects. A glob, a matcher, a builder, a set, a searcher of a set or of a matcher, answers and an ignore (a walk with
+ * its ignore files) are objects on the heap. A handle is a struct of one pointer.
  *
  *  - Who has an object *owns* it: `globset_owned`. An owned object is in one call at a time. It is freed once, by
  *    `globset_raw_free`, and its handle is not used after that. It may go to another thread, which then uses and frees
@@ -16,17 +16,13 @@
  *    object may be lent to any number of calls at once, in any threads. Each call gets a `globset_lent` of its own (the
  *    struct, not the object). While an object is lent, from before the call until it has returned, nobody passes it to
  *    a call as `globset_owned`: it is not freed, for instance.
- *  - A work is the memory that one thread asks matchers with. It serves any number of them, and grows with them. It
- *    belongs to one thread at a time. A *plain* call, whose name ends in `_plain`, is passed no work: it takes what
- *    memory it needs, and gives it back.
- *  - A set and a matcher keep caches of rows between calls, until they are freed: at most four for each automaton.
- *    Plain calls make them, except the first two that would use one. A call that grows a work makes one for each
- *    automaton that has none, as far as there is memory. A call with a work that fits makes none, and uses those that
- *    are there. A searcher has rows of its own.
- *  - A searcher is a set with all the memory that one thread matches with. It shares what the set matches with, and so
- *    may be used after the set was freed. It belongs to one thread at a time, and several threads make a searcher each.
- *    A question about one path takes no memory and cannot fail. A program that asks a set about many paths asks a
- *    searcher of it.
+ *  - A *plain* call, whose name ends in `_plain`, is on a set or a matcher alone: it takes what memory it needs, and
+ *    gives it back. A set and a matcher keep caches of rows between plain calls, until they are freed: at most four for
+ *    each automaton. The first two calls that would use one make none.
+ *  - A searcher is a set or a matcher with all the memory that one thread matches with. It shares what these match with,
+ *    and so may be used after they were freed. It belongs to one thread at a time, and several threads make a searcher
+ *    each. A question about one path takes no memory and cannot fail. A program that asks about many paths asks a
+ *    searcher.
  *  - A walk has the ignore files of directories. It belongs to one thread at a time.
  *
  * Texts and paths are bytes with a length. They need no NUL at the end and may have NULs inside. A path is any bytes.
@@ -45,10 +41,10 @@
  *
  * What the library promises in every call: it reads and writes nothing else, it returns, it never ends the process, and
  * it keeps nothing of its arguments but what is said below. Running out of memory is the status GLOBSET_OUT_OF_MEMORY;
- * all objects then hold what they held before the call, but that a work or a walk may have kept more memory for later
- * calls, and can be used on. The status GLOBSET_WRONG_KIND comes exactly if an object is of another kind than the call
- * asks for, and all objects are then as they were; where a call takes ends of paths, a domain or what decides, these
- * are looked at first. After any status but GLOBSET_DONE, GLOBSET_NO and GLOBSET_YES no new object was made, and each
+ * all objects then hold what they held before the call, but that a walk may have kept more memory for later calls, and
+ * can be used on. The status GLOBSET_WRONG_KIND comes exactly if an object is of another kind than the call asks for,
+ * and all objects are then as they were; where a call takes ends of paths, a domain or what decides, these are looked
+ * at first. After any status but GLOBSET_DONE, GLOBSET_NO and GLOBSET_YES no new object was made, and each
  * result that has no sentence of its own is as it was.
  */
 #ifndef GLOBSET_RAW_H
@@ -137,14 +133,18 @@ globset_status globset_raw_glob_options(globset_lent *glob, uint32_t *options);
  * GLOBSET_OUT_OF_MEMORY. */
 globset_status globset_raw_matcher_new(globset_lent *glob, globset_owned *out);
 
-/* Whether the matcher's glob matches the path: GLOBSET_YES or GLOBSET_NO. If the work does not fit the matcher, it is
- * grown first, and only that can end in GLOBSET_OUT_OF_MEMORY. GLOBSET_WRONG_KIND. */
-globset_status globset_raw_matcher_is_match(globset_lent *matcher, globset_owned *work, const uint8_t *path,
-                                            size_t path_len);
-
-/* Whether the matcher's glob matches the path, without a work: GLOBSET_YES or GLOBSET_NO. GLOBSET_WRONG_KIND,
- * GLOBSET_OUT_OF_MEMORY. */
+/* Whether the matcher's glob matches the path: GLOBSET_YES or GLOBSET_NO. GLOBSET_WRONG_KIND, GLOBSET_OUT_OF_MEMORY. */
 globset_status globset_raw_matcher_is_match_plain(globset_lent *matcher, const uint8_t *path, size_t path_len);
+
+/* Makes a searcher of a matcher. It shares the matcher's automaton and has a copy of the glob, so the matcher may be
+ * freed. If the glob needs an automaton, it also takes two bits for each of its states, and 4 MiB for its rows, or more
+ * if it has hundreds of thousands of states. GLOBSET_DONE, GLOBSET_WRONG_KIND, GLOBSET_OUT_OF_MEMORY. */
+globset_status globset_raw_matcher_searcher_new(globset_lent *matcher, globset_owned *out);
+
+/* Whether the glob of the searcher's matcher matches the path: GLOBSET_YES or GLOBSET_NO, the same as of
+ * globset_raw_matcher_is_match_plain. It takes no memory. GLOBSET_WRONG_KIND: the object is no searcher of a matcher,
+ * and is as it was. */
+globset_status globset_raw_matcher_searcher_is_match(globset_owned *searcher, const uint8_t *path, size_t path_len);
 
 /* Makes a builder without globs. GLOBSET_DONE, GLOBSET_OUT_OF_MEMORY. */
 globset_status globset_raw_builder_new(globset_owned *out);
@@ -185,20 +185,11 @@ globset_status globset_raw_set_matches_all_plain(globset_lent *set, const uint8_
 globset_status globset_raw_set_matches_plain(globset_lent *set, const uint8_t *path, size_t path_len, size_t *room,
                                              size_t room_len, size_t *needed);
 
-/* Makes a work. It fits a set without globs, and is grown as it is used. GLOBSET_DONE, GLOBSET_OUT_OF_MEMORY. */
-globset_status globset_raw_work_new(globset_owned *out);
-
-/* Grows a work, if need be, so that it fits this set or matcher, and all that it fitted before. GLOBSET_DONE;
- * GLOBSET_WRONG_KIND and GLOBSET_OUT_OF_MEMORY, and then the work fits what it fitted before. If it is grown, the set
- * or the matcher keeps caches, as said above; one for which there is no memory is left out. With a work that fits the
- * matcher, no question about one path takes memory or can end in GLOBSET_OUT_OF_MEMORY. */
-globset_status globset_raw_work_fit(globset_owned *work, globset_lent *set_or_matcher);
-
 /* Makes a searcher of a set. It shares what the set matches with, so the set may be freed. It takes the memory that
- * questions about one path need: eight bytes for each glob, as much as a work that fits the set, and for rows of
- * automata up to a quarter of the limit of globset_raw_builder_set_dfa_size_limit, 4 MiB by default, or more than that
- * if automata have hundreds of thousands of states.
- * GLOBSET_DONE, GLOBSET_WRONG_KIND, GLOBSET_OUT_OF_MEMORY. */
+ * questions about one path need: eight bytes and a bit for each glob, two bits for each state of the largest automaton,
+ * and for rows of automata up to a quarter of the limit of globset_raw_builder_set_dfa_size_limit, 4 MiB by default, or
+ * more than that if automata have hundreds of thousands of states. GLOBSET_DONE, GLOBSET_WRONG_KIND,
+ * GLOBSET_OUT_OF_MEMORY. */
 globset_status globset_raw_searcher_new(globset_lent *set, globset_owned *out);
 
 /* Whether some glob of the searcher's set matches the path: GLOBSET_YES or GLOBSET_NO, the same as of

@@ -12,7 +12,7 @@ use Rattle.glob_relations.specs.declared.unused.Decides.{Decides}
 use Rattle.glob_relations.specs.declared.unused.Reachability.{Reachability}
 use Rattle.globset_c.specs.declared.answers.Answers.TheVariants as answers
 use Rattle.globset_c.specs.declared.object.Object.{Object}
-use Rattle.globset_c.specs.declared.object.Object.TheVariants.{Glob, Matcher, Builder, Set, Work, Searcher, Answers, Ignore}
+use Rattle.globset_c.specs.declared.object.Object.TheVariants.{Glob, Matcher, MatcherSearcher, Builder, Set, Searcher, Answers, Ignore}
 use Rattle.globset_c.specs.Kinds.{IfGlob}
 use Rattle.globset_c.specs.Relations.{AnswersCovering, AnswersOverlap, AnswersUnreachable}
 
@@ -24,7 +24,7 @@ answers_covering (Glob h) g by globs domain limit c e same t =
 answers_covering (Matcher h) g by globs domain limit c e same t = absurd e
 answers_covering (Builder h) g by globs domain limit c e same t = absurd e
 answers_covering (Set h) g by globs domain limit c e same t = absurd e
-answers_covering (Work h) g by globs domain limit c e same t = absurd e
+answers_covering (MatcherSearcher h) g by globs domain limit c e same t = absurd e
 answers_covering (Searcher h) g by globs domain limit c e same t = absurd e
 answers_covering (Answers h) g by globs domain limit c e same t = absurd e
 answers_covering (Ignore h) g by globs domain limit c e same t = absurd e
@@ -34,7 +34,7 @@ second g h (Glob k) domain limit c e t = subst (λ (x : GlobValue). TellsOverlap
 second g h (Matcher k) domain limit c e t = absurd e
 second g h (Builder k) domain limit c e t = absurd e
 second g h (Set k) domain limit c e t = absurd e
-second g h (Work k) domain limit c e t = absurd e
+second g h (MatcherSearcher k) domain limit c e t = absurd e
 second g h (Searcher k) domain limit c e t = absurd e
 second g h (Answers k) domain limit c e t = absurd e
 second g h (Ignore k) domain limit c e t = absurd e
@@ -46,7 +46,7 @@ answers_overlap (Glob k) p g h domain limit c e f t = second k h p domain limit 
 answers_overlap (Matcher k) p g h domain limit c e f t = absurd e
 answers_overlap (Builder k) p g h domain limit c e f t = absurd e
 answers_overlap (Set k) p g h domain limit c e f t = absurd e
-answers_overlap (Work k) p g h domain limit c e f t = absurd e
+answers_overlap (MatcherSearcher k) p g h domain limit c e f t = absurd e
 answers_overlap (Searcher k) p g h domain limit c e f t = absurd e
 answers_overlap (Answers k) p g h domain limit c e f t = absurd e
 answers_overlap (Ignore k) p g h domain limit c e f t = absurd e

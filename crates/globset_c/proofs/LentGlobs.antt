@@ -5,7 +5,7 @@ use Rattle.std.proofs.lemmas.List.Elements.{All-more, All-nil, All-tail}
 use Rattle.std.specs.Prelude.{Some, take, slice_index_or}
 use Rattle.globset_c.specs.declared.lent.Lent.{Lent}
 use Rattle.globset_c.specs.declared.object.Object.{Object}
-use Rattle.globset_c.specs.declared.object.Object.TheVariants.{Glob, Matcher, Builder, Set, Work, Searcher, Answers, Ignore}
+use Rattle.globset_c.specs.declared.object.Object.TheVariants.{Glob, Matcher, MatcherSearcher, Builder, Set, Searcher, Answers, Ignore}
 use Rattle.globset_glob.specs.GlobMatches.{GlobValue}
 use Rattle.globset_c.specs.Kinds.{IfGlob, IsGlob}
 use Rattle.globset_c.specs.LentGlobs.{AreGlobs, glob_in, lent_globs}
@@ -30,7 +30,7 @@ one_at_most (Glob g) = omega arith
 one_at_most (Matcher o) = omega arith
 one_at_most (Builder o) = omega arith
 one_at_most (Set o) = omega arith
-one_at_most (Work o) = omega arith
+one_at_most (MatcherSearcher o) = omega arith
 one_at_most (Searcher o) = omega arith
 one_at_most (Answers o) = omega arith
 one_at_most (Ignore o) = omega arith
@@ -40,7 +40,7 @@ one_each (Glob g) h = refl
 one_each (Matcher o) h = absurd h
 one_each (Builder o) h = absurd h
 one_each (Set o) h = absurd h
-one_each (Work o) h = absurd h
+one_each (MatcherSearcher o) h = absurd h
 one_each (Searcher o) h = absurd h
 one_each (Answers o) h = absurd h
 one_each (Ignore o) h = absurd h
@@ -51,7 +51,7 @@ the_glob (Glob g) c e = ap (λ (x : GlobValue). x ∷ []) (sym e)
 the_glob (Matcher o) c e = absurd e
 the_glob (Builder o) c e = absurd e
 the_glob (Set o) c e = absurd e
-the_glob (Work o) c e = absurd e
+the_glob (MatcherSearcher o) c e = absurd e
 the_glob (Searcher o) c e = absurd e
 the_glob (Answers o) c e = absurd e
 the_glob (Ignore o) c e = absurd e

@@ -6,8 +6,7 @@ use Rattle.globset.specs.SearcherValue.{SearcherValue}
 use Rattle.globset.specs.SetValue.{SetValue, BuilderValue}
 use Rattle.globset_c.specs.declared.answers.Answers.{Answers as AnswersValue}
 use Rattle.globset_c.specs.declared.object.Object.{Object}
-use Rattle.globset_c.specs.declared.object.Object.TheVariants.{Glob, Matcher, Builder, Set, Work, Searcher, Answers, Ignore}
-use Rattle.globset_c.specs.declared.object.Work.{Work as WorkValue}
+use Rattle.globset_c.specs.declared.object.Object.TheVariants.{Glob, Matcher, MatcherSearcher, Builder, Set, Searcher, Answers, Ignore}
 
 -- it is a glob, and P of it
 abbrev pub IfGlob : Option Object → (GlobValue → Type 0) → Type 0
@@ -19,6 +18,11 @@ abbrev pub IfMatcher : Option Object → (GlobValue → Type 0) → Type 0
 IfMatcher (Some (Matcher m)) P = P m
 IfMatcher _ P = ⊥
 
+-- it is a searcher of a matcher, and P of its glob
+abbrev pub IfMatcherSearcher : Option Object → (GlobValue → Type 0) → Type 0
+IfMatcherSearcher (Some (MatcherSearcher m)) P = P m
+IfMatcherSearcher _ P = ⊥
+
 -- it is a builder, and P of it
 abbrev pub IfBuilder : Option Object → (BuilderValue → Type 0) → Type 0
 IfBuilder (Some (Builder b)) P = P b
@@ -28,11 +32,6 @@ IfBuilder _ P = ⊥
 abbrev pub IfSet : Option Object → (SetValue → Type 0) → Type 0
 IfSet (Some (Set s)) P = P s
 IfSet _ P = ⊥
-
--- it is a work, and P of it
-abbrev pub IfWork : Option Object → (WorkValue → Type 0) → Type 0
-IfWork (Some (Work w)) P = P w
-IfWork _ P = ⊥
 
 -- it is a searcher, and P of it
 abbrev pub IfSearcher : Option Object → (SearcherValue → Type 0) → Type 0
@@ -63,14 +62,14 @@ IsGlob o = IfGlob o (λ _. ⊤)
 abbrev pub IsMatcher : Option Object → Type 0
 IsMatcher o = IfMatcher o (λ _. ⊤)
 
+abbrev pub IsMatcherSearcher : Option Object → Type 0
+IsMatcherSearcher o = IfMatcherSearcher o (λ _. ⊤)
+
 abbrev pub IsBuilder : Option Object → Type 0
 IsBuilder o = IfBuilder o (λ _. ⊤)
 
 abbrev pub IsSet : Option Object → Type 0
 IsSet o = IfSet o (λ _. ⊤)
-
-abbrev pub IsWork : Option Object → Type 0
-IsWork o = IfWork o (λ _. ⊤)
 
 abbrev pub IsSearcher : Option Object → Type 0
 IsSearcher o = IfSearcher o (λ _. ⊤)

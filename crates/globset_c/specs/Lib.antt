@@ -1,6 +1,5 @@
 pub mod Answers
 pub mod Errors
-pub mod Allocation
 pub mod Held
 pub mod Ignoring
 pub mod Kinds

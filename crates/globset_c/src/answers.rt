@@ -1,13 +1,13 @@
 //! Answers to questions about globs and rules of ignore files.
 
-ghost use Rattle.std.specs.Prelude.{◌≡◌, ◌≢◌, ◌≤◌, ◌<◌, Some, None, [], ◌∷◌, IfSome, IsSome, MatchOption, length, map, slice_get};
+ghost use Rattle.std.specs.Prelude.{◌≡◌, ◌≢◌, ◌≤◌, ◌<◌, Some, None, [], ◌∷◌, IsSome, MatchOption, length, map, slice_get};
 ghost use Rattle.globset_c.specs.Kinds.{IfAnswers, IsAnswers};
 ghost use Rattle.globset_c.specs.Relations.{lines_told, told, told_by, told_coverage, told_intersection, told_reachability, told_rule_reachability, a_path, below_ignored, no_path, limit_reached};
 ghost use Rattle.globset_c.specs.Statuses.{IsOneOf};
 
-use crate::indexes::Indexes;
 use crate::object::Object;
 use crate::owned::Owned;
+use crate::slices::{Bytes, Indexes};
 use crate::status::{BAD_INDEX, BELOW_IGNORED, DONE, LIMIT_REACHED, NO, Status, WRONG_KIND, YES};
 use glob_relations::{Coverage, Intersection, Reachability, RuleReachability};
 use std::slice;
@@ -42,12 +42,6 @@ pub enum Answer<'a> {
     Unknown,
 }
 
-/// Bytes that answers or a walk lend.
-#[repr(C)]
-pub struct Bytes<'a> {
-    pub items: &'a [u8],
-}
-
 /// Lends what the answer of an index tells: a path, or the indexes of globs or rules where there is no such path.
 #[unsafe(no_mangle)]
 pub extern "C" fn globset_raw_answers_at<'a>(
@@ -56,6 +50,7 @@ pub extern "C" fn globset_raw_answers_at<'a>(
     path: &mut Bytes<'a>,
     indexes: &mut Indexes<'a>,
 ) -> Status
+    // The status says what the answer of the index tells.
     requires owned { IsSome answers.old.object }
     ensures yes { result ≡ YES → IfAnswers answers.old.object (λ all.
         slice_get (told all) index ≡ Some (a_path path.new.items.now)) }
@@ -65,19 +60,23 @@ pub extern "C" fn globset_raw_answers_at<'a>(
         slice_get (told all) index ≡ Some (below_ignored indexes.new.items.now)) }
     ensures limit { result ≡ LIMIT_REACHED
         → IfAnswers answers.old.object (λ all. slice_get (told all) index ≡ Some limit_reached) }
-    ensures bad_index { result ≡ BAD_INDEX
-        → IfAnswers answers.old.object (λ all. length (told all) ≤ index) }
+
+    // The call lends a path only with YES, and indexes only with NO or BELOW_IGNORED.
     ensures empty_without_path { result ≢ YES → path.new.items.now ≡ [] }
     ensures empty_without_indexes { result ≢ NO → result ≢ BELOW_IGNORED
         → indexes.new.items.now ≡ [] }
+
+    // Only these statuses come. The kind decides whether WRONG_KIND does, and the index whether BAD_INDEX does.
     ensures right_kind { IsAnswers answers.old.object → result ≢ WRONG_KIND }
     ensures other_kind { ¬ (IsAnswers answers.old.object) → result ≡ WRONG_KIND }
+    ensures bad_index { result ≡ BAD_INDEX
+        → IfAnswers answers.old.object (λ all. length (told all) ≤ index) }
     ensures statuses { IsOneOf
         (NO ∷ YES ∷ WRONG_KIND ∷ LIMIT_REACHED ∷ BAD_INDEX ∷ BELOW_IGNORED ∷ []) result }
 {
     path.items = &[];
     indexes.items = &[];
-    let Some(all) = answers_in(answers.as_mut()) else {
+    let Object::Answers(all) = answers.as_mut() else {
         return WRONG_KIND;
     };
     match answer_at(all, index) {
@@ -104,16 +103,19 @@ pub extern "C" fn globset_raw_answers_lines<'a>(
     answers: &'a mut Owned,
     lines: &mut Indexes<'a>,
 ) -> Status
+    // The call lends numbers only with DONE.
     requires owned { IsSome answers.old.object }
     ensures lines { result ≡ DONE
         → IfAnswers answers.old.object (λ all. lines.new.items.now ≡ lines_told all) }
     ensures empty_after_errors { result ≢ DONE → lines.new.items.now ≡ [] }
+
+    // Only these statuses come, and the kind decides whether WRONG_KIND does.
     ensures right_kind { IsAnswers answers.old.object → result ≢ WRONG_KIND }
     ensures other_kind { ¬ (IsAnswers answers.old.object) → result ≡ WRONG_KIND }
     ensures statuses { IsOneOf (DONE ∷ WRONG_KIND ∷ []) result }
 {
     lines.items = &[];
-    let Some(all) = answers_in(answers.as_mut()) else {
+    let Object::Answers(all) = answers.as_mut() else {
         return WRONG_KIND;
     };
     lines.items = lines_of(all);
@@ -127,16 +129,6 @@ fn lines_of(answers: &Answers) -> &[usize]
     match answers {
         Answers::Rules(rules) => &rules.lines,
         _ => &[],
-    }
-}
-
-fn answers_in(object: &mut Object) -> Option<&Answers>
-    ensures some { IfSome result (λ all. IfAnswers (Some object.old) (λ asked. all.now ≡ asked)) }
-    ensures none { result ≡ None → ¬ (IsAnswers (Some object.old)) }
-{
-    match object {
-        Object::Answers(answers) => Some(answers),
-        _ => None,
     }
 }
 

@@ -1,6 +1,6 @@
 //! Builders of sets.
 
-ghost use Rattle.std.specs.Prelude.{◌≡◌, ◌≢◌, ◌↔◌, Some, Err, [], ◌∷◌, ◌++◌, IfOk, IfErr, IsSome, IsTrue, OnOk, OnErr};
+ghost use Rattle.std.specs.Prelude.{◌≡◌, ◌≢◌, Some, Err, [], ◌∷◌, ◌++◌, IfOk, IfErr, IsSome};
 ghost use Rattle.globset.specs.SetValue.{builder_globs, set_globs};
 ghost use Rattle.globset_c.specs.Kinds.{IfBuilder, IfGlob, IfSet, IsBuilder, IsGlob};
 ghost use Rattle.globset_c.specs.Statuses.{IsOneOf};
@@ -27,35 +27,35 @@ pub extern "C" fn globset_raw_builder_new(alloc: Global, out: &mut Owned) -> Sta
 /// Adds a copy of a glob after the globs of a builder.
 #[unsafe(no_mangle)]
 pub extern "C" fn globset_raw_builder_add(builder: &mut Owned, glob: &mut Lent) -> Status
+    // `builder` owns an object before the call and after it.
     requires owned { IsSome builder.old.object }
     ensures owned { IsSome builder.new.object }
+
+    // Only `builder` changes, and only with DONE.
     ensures same_glob { glob.new ≡ glob.old }
     ensures added { result ≡ DONE → IfGlob (Some glob.old.object) (λ g.
         IfBuilder builder.old.object (λ b.
         IfBuilder builder.new.object (λ c. builder_globs c ≡ builder_globs b ++ g ∷ []))) }
     ensures kept { result ≢ DONE → builder.new.object ≡ builder.old.object }
+
+    // Only these statuses come, and the kinds decide whether WRONG_KIND does.
     ensures right_kind { IsBuilder builder.old.object → IsGlob (Some glob.old.object)
         → result ≢ WRONG_KIND }
     ensures other_kind { ¬ (IsGlob (Some glob.old.object)) → result ≡ WRONG_KIND }
     ensures no_builder { ¬ (IsBuilder builder.old.object) → result ≡ WRONG_KIND }
     ensures statuses { IsOneOf (DONE ∷ OUT_OF_MEMORY ∷ WRONG_KIND ∷ []) result }
 {
-    // Before the glob is copied, so that memory does not run out for a builder that is none.
-    if !is_builder(builder.as_mut()) {
+    let Object::Builder(builder) = builder.as_mut() else {
         return WRONG_KIND;
-    }
+    };
     match glob.read((), |object, ()| copy_of(object)) {
-        Ok(copy) => add(builder.as_mut(), copy),
+        Ok(copy) => match builder.push(copy) {
+            Ok(()) => DONE,
+            Err(_) => OUT_OF_MEMORY,
+        },
         Err(Failure::OutOfMemory) => OUT_OF_MEMORY,
         Err(Failure::WrongKind) => WRONG_KIND,
     }
-}
-
-fn is_builder(object: &mut Object) -> bool
-    ensures same { object.new ≡ object.old }
-    ensures answer { IsTrue result ↔ IsBuilder (Some object.old) }
-{
-    matches!(object, Object::Builder(_))
 }
 
 /// Returns a copy of the glob, if the object is a glob.
@@ -73,22 +73,6 @@ pub fn copy_of(object: &Object) -> Result<Glob, Failure>
     }
 }
 
-fn add(object: &mut Object, glob: Glob) -> Status
-    ensures added { result ≡ DONE → IfBuilder (Some object.old) (λ b.
-        IfBuilder (Some object.new) (λ c. builder_globs c ≡ builder_globs b ++ glob ∷ [])) }
-    ensures kept { result ≢ DONE → object.new ≡ object.old }
-    ensures right_kind { IsBuilder (Some object.old) → result ≢ WRONG_KIND }
-    ensures statuses { IsOneOf (DONE ∷ OUT_OF_MEMORY ∷ WRONG_KIND ∷ []) result }
-{
-    let Object::Builder(builder) = object else {
-        return WRONG_KIND;
-    };
-    match builder.push(glob) {
-        Ok(()) => DONE,
-        Err(_) => OUT_OF_MEMORY,
-    }
-}
-
 /// Makes the set of a builder's globs, which are moved into it, and lets the caller own it.
 #[unsafe(no_mangle)]
 pub extern "C" fn globset_raw_builder_build(
@@ -96,49 +80,37 @@ pub extern "C" fn globset_raw_builder_build(
     builder: &mut Owned,
     out: &mut Owned,
 ) -> Status
+    // `builder` owns an object before the call and after it.
     requires owned { IsSome builder.old.object }
     ensures owned { IsSome builder.new.object }
+
+    // With DONE the globs move into the set, and otherwise nothing changes.
     ensures built { result ≡ DONE → IfBuilder builder.old.object (λ b.
         IfSet out.new.object (λ s. set_globs s ≡ builder_globs b)) }
     ensures emptied { result ≡ DONE → IfBuilder builder.new.object (λ b. builder_globs b ≡ []) }
     ensures kept { result ≢ DONE → builder.new.object ≡ builder.old.object }
     ensures refused { result ≢ DONE → out.new ≡ out.old }
+
+    // Only these statuses come, and the kind decides whether WRONG_KIND does.
     ensures right_kind { IsBuilder builder.old.object → result ≢ WRONG_KIND }
     ensures other_kind { ¬ (IsBuilder builder.old.object) → result ≡ WRONG_KIND }
     ensures statuses { IsOneOf (DONE ∷ OUT_OF_MEMORY ∷ WRONG_KIND ∷ []) result }
 {
-    if !is_builder(builder.as_mut()) {
+    let Object::Builder(builder) = builder.as_mut() else {
         return WRONG_KIND;
-    }
+    };
     // The set's place is made first, so that the globs are not lost if there is no memory for it.
     let Ok(boxed) = Box::new(alloc, Object::Set(GlobSet::empty())) else {
         return OUT_OF_MEMORY;
     };
-    match build(builder.as_mut()) {
+    match builder.take_set() {
         Ok(set) => {
             let mut boxed = boxed;
             *boxed = Object::Set(set);
             *out = Owned::of(boxed);
             DONE
         }
-        Err(Failure::OutOfMemory) => OUT_OF_MEMORY,
-        Err(Failure::WrongKind) => WRONG_KIND,
-    }
-}
-
-fn build(object: &mut Object) -> Result<GlobSet, Failure>
-    ensures built { IfOk result
-        (λ s. IfBuilder (Some object.old) (λ b. set_globs s ≡ builder_globs b)) }
-    ensures emptied { OnOk result (IfBuilder (Some object.new) (λ b. builder_globs b ≡ [])) }
-    ensures kept { OnErr result (object.new ≡ object.old) }
-    ensures wrong_kind { IfErr result (λ why. why ≡ WrongKind → ¬ (IsBuilder (Some object.old))) }
-{
-    let Object::Builder(builder) = object else {
-        return Err(Failure::WrongKind);
-    };
-    match builder.take_set() {
-        Ok(set) => Ok(set),
-        Err(_) => Err(Failure::OutOfMemory),
+        Err(_) => OUT_OF_MEMORY,
     }
 }
 
@@ -155,16 +127,7 @@ pub extern "C" fn globset_raw_builder_set_dfa_size_limit(
     ensures other_kind { result ≡ DONE → IsBuilder builder.old.object }
     ensures statuses { IsOneOf (DONE ∷ WRONG_KIND ∷ []) result }
 {
-    set_limit(builder.as_mut(), bytes)
-}
-
-fn set_limit(object: &mut Object, bytes: usize) -> Status
-    ensures same_globs { object.new ≡ object.old }
-    ensures right_kind { IsBuilder (Some object.old) → result ≡ DONE }
-    ensures other_kind { result ≡ DONE → IsBuilder (Some object.old) }
-    ensures statuses { IsOneOf (DONE ∷ WRONG_KIND ∷ []) result }
-{
-    match object {
+    match builder.as_mut() {
         Object::Builder(builder) => {
             builder.dfa_size_limit(bytes);
             DONE

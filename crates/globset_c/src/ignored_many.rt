@@ -1,14 +1,13 @@
 //! Whether many paths are ignored, and by which rules.
 
-ghost use Rattle.std.specs.Prelude.{◌≡◌, ◌≢◌, ◌⊎◌, Option, Some, Err, [], ◌∷◌, IsSome, IfOk, IfErr, length, map};
+ghost use Rattle.std.specs.Prelude.{◌≡◌, ◌≢◌, ◌⊎◌, Option, Some, [], ◌∷◌, IsSome, IfOk, length, map};
 ghost use Rattle.globset_c.specs.Ignoring.{IsDecideBy, decisions_for, path_rule, path_rules, rules_for};
 ghost use Rattle.globset_c.specs.Kinds.{IfIgnore, IsIgnore};
 ghost use Rattle.globset_c.specs.Paths.{AreEnds};
 ghost use Rattle.globset_c.specs.Statuses.{IsOneOf};
-ghost use Rattle.globset_c.specs.declared.object.Failure.TheVariants.{WrongKind};
 
 use crate::ignored::decide_by;
-use crate::object::{Failure, Object};
+use crate::object::Object;
 use crate::owned::Owned;
 use crate::paths::are_ends;
 use crate::status::{BAD_ENDS, DONE, OUT_OF_MEMORY, Status, UNKNOWN_OPTION, WRONG_KIND};
@@ -79,11 +78,13 @@ pub extern "C" fn globset_raw_ignore_decide_many(
     by: u32,
     answers: &mut [u8],
 ) -> Status
+    // Only `answers` changes, and only with DONE.
     requires owned { IsSome ignore.old.object }
     ensures same { ignore.new.object ≡ ignore.old.object }
     ensures answered { result ≡ DONE → IfIgnore ignore.old.object (λ s.
         answers.new ≡ decisions_for s by paths.now 0 ends.now) }
     ensures refused { result ≢ DONE → answers.new ≡ answers.old }
+
     // The number is looked at first, then the ends, and then the object.
     ensures unknown { result ≡ UNKNOWN_OPTION → ¬ (IsDecideBy by) }
     ensures known { result ≢ UNKNOWN_OPTION → IsDecideBy by }
@@ -92,6 +93,8 @@ pub extern "C" fn globset_raw_ignore_decide_many(
         → length ends.now ≡ length answers.old }
     ensures bad_ends { result ≡ BAD_ENDS →
         (length ends.now ≢ length answers.old) ⊎ (¬ (AreEnds (length paths.now) 0 ends.now)) }
+
+    // Only these statuses come, and the kind decides whether WRONG_KIND does.
     ensures right_kind { IsIgnore ignore.old.object → result ≢ WRONG_KIND }
     ensures other_kind { IsDecideBy by → ¬ (IsIgnore ignore.old.object) → result ≢ BAD_ENDS
         → result ≡ WRONG_KIND }
@@ -111,11 +114,13 @@ pub extern "C" fn globset_raw_ignore_rules_many(
     by: u32,
     rules: &mut [ToldRule],
 ) -> Status
+    // Only `rules` changes, and only with DONE.
     requires owned { IsSome ignore.old.object }
     ensures same { ignore.new.object ≡ ignore.old.object }
     ensures told { result ≡ DONE → IfIgnore ignore.old.object (λ s.
         rules.new ≡ rules_for s by paths.now 0 ends.now) }
     ensures refused { result ≢ DONE → rules.new ≡ rules.old }
+
     // The number is looked at first, then the ends, and then the object.
     ensures unknown { result ≡ UNKNOWN_OPTION → ¬ (IsDecideBy by) }
     ensures known { result ≢ UNKNOWN_OPTION → IsDecideBy by }
@@ -123,6 +128,8 @@ pub extern "C" fn globset_raw_ignore_rules_many(
     ensures one_for_each { IsDecideBy by → result ≢ BAD_ENDS → length ends.now ≡ length rules.old }
     ensures bad_ends { result ≡ BAD_ENDS →
         (length ends.now ≢ length rules.old) ⊎ (¬ (AreEnds (length paths.now) 0 ends.now)) }
+
+    // Only these statuses come, and the kind decides whether WRONG_KIND does.
     ensures right_kind { IsIgnore ignore.old.object → result ≢ WRONG_KIND }
     ensures other_kind { IsDecideBy by → ¬ (IsIgnore ignore.old.object) → result ≢ BAD_ENDS
         → result ≡ WRONG_KIND }
@@ -141,10 +148,13 @@ fn tell_many<T: Told>(
     by: u32,
     answers: &mut [T],
 ) -> Status
+    // Only `answers` changes, and only with DONE.
     ensures same { object.new ≡ object.old }
     ensures told { result ≡ DONE → IfIgnore (Some object.old) (λ s.
         answers.new ≡ map T.told (path_rules s by paths.now 0 ends.now)) }
     ensures refused { result ≢ DONE → answers.new ≡ answers.old }
+
+    // The number is looked at first, then the ends, and then the object.
     ensures unknown { result ≡ UNKNOWN_OPTION → ¬ (IsDecideBy by) }
     ensures known { result ≢ UNKNOWN_OPTION → IsDecideBy by }
     ensures in_order { IsDecideBy by → result ≢ BAD_ENDS → AreEnds (length paths.now) 0 ends.now }
@@ -152,6 +162,8 @@ fn tell_many<T: Told>(
         → length ends.now ≡ length answers.old }
     ensures bad_ends { result ≡ BAD_ENDS →
         (length ends.now ≢ length answers.old) ⊎ (¬ (AreEnds (length paths.now) 0 ends.now)) }
+
+    // Only these statuses come, and the kind decides whether WRONG_KIND does.
     ensures right_kind { IsIgnore (Some object.old) → result ≢ WRONG_KIND }
     ensures other_kind { IsDecideBy by → ¬ (IsIgnore (Some object.old)) → result ≢ BAD_ENDS
         → result ≡ WRONG_KIND }
@@ -164,37 +176,15 @@ fn tell_many<T: Told>(
     if ends.len() != answers.len() || !are_ends(paths.len(), ends) {
         return BAD_ENDS;
     }
-    match told_of(alloc, object, paths, ends, by) {
+    let Object::Ignore(stack) = object else {
+        return WRONG_KIND;
+    };
+    match tell_each(alloc, stack, paths, ends, by) {
         Ok(found) => {
             answers.copy_from_slice(&found);
             DONE
         }
-        Err(Failure::OutOfMemory) => OUT_OF_MEMORY,
-        Err(Failure::WrongKind) => WRONG_KIND,
-    }
-}
-
-fn told_of<T: Told>(
-    alloc: Global,
-    object: &mut Object,
-    paths: &[u8],
-    ends: &[usize],
-    by: u32,
-) -> Result<Vec<T>, Failure>
-    requires { AreEnds (length paths.now) 0 ends.now }
-    ensures same { object.new ≡ object.old }
-    ensures told { IfOk result (λ v. IfIgnore (Some object.old) (λ s.
-        v.items ≡ map T.told (path_rules s by paths.now 0 ends.now))) }
-    ensures len { IfOk result (λ v. length v.items ≡ length ends.now) }
-    ensures right_kind { IfErr result (λ why. why ≡ WrongKind → ¬ (IsIgnore (Some object.old))) }
-    ensures other_kind { ¬ (IsIgnore (Some object.old)) → result ≡ Err WrongKind }
-{
-    match object {
-        Object::Ignore(stack) => match tell_each(alloc, stack, paths, ends, by) {
-            Ok(found) => Ok(found),
-            Err(_) => Err(Failure::OutOfMemory),
-        },
-        _ => Err(Failure::WrongKind),
+        Err(_) => OUT_OF_MEMORY,
     }
 }
 

@@ -1,6 +1,6 @@
 //! Walks with their ignore files.
 
-ghost use Rattle.std.specs.Prelude.{◌≡◌, ◌≢◌, Some, [], ◌∷◌, IsSome};
+ghost use Rattle.std.specs.Prelude.{◌≡◌, ◌≢◌, [], ◌∷◌, IsSome};
 ghost use Rattle.git_ignore.specs.StackValue.{at_top, entered, left, with_file};
 ghost use Rattle.globset_c.specs.Ignoring.{AreIgnoreOptions, ignores_case};
 ghost use Rattle.globset_c.specs.Kinds.{IfIgnore, IfIgnores, IsIgnore};
@@ -10,7 +10,7 @@ use crate::making::hand_out;
 use crate::object::Object;
 use crate::owned::Owned;
 use crate::status::{DONE, OUT_OF_MEMORY, Status, UNKNOWN_OPTION, WRONG_KIND};
-use git_ignore::{IgnoreStack, RulesBuilder};
+use git_ignore::RulesBuilder;
 use std::alloc::Global;
 
 /// The bit of the option to ignore case.
@@ -35,105 +35,66 @@ pub extern "C" fn globset_raw_ignore_new(alloc: Global, options: u32, out: &mut 
 /// Adds an ignore file of the folder that a walk is in.
 #[unsafe(no_mangle)]
 pub extern "C" fn globset_raw_ignore_add_file(ignore: &mut Owned, file: &[u8]) -> Status
+    // `ignore` owns an object before the call and after it, and the object changes only with DONE.
     requires owned { IsSome ignore.old.object }
     ensures owned { IsSome ignore.new.object }
     ensures added { result ≡ DONE
         → IfIgnores ignore.old.object ignore.new.object (λ s t. t ≡ with_file s file.now) }
     ensures kept { result ≢ DONE → ignore.new.object ≡ ignore.old.object }
+
+    // Only these statuses come, and the kind decides whether WRONG_KIND does.
     ensures right_kind { IsIgnore ignore.old.object → result ≢ WRONG_KIND }
     ensures other_kind { ¬ (IsIgnore ignore.old.object) → result ≡ WRONG_KIND }
     ensures statuses { IsOneOf (DONE ∷ OUT_OF_MEMORY ∷ WRONG_KIND ∷ []) result }
 {
-    add_file_to(ignore.as_mut(), file)
-}
-
-fn add_file_to(object: &mut Object, file: &[u8]) -> Status
-    ensures added { result ≡ DONE
-        → IfIgnores (Some object.old) (Some object.new) (λ s t. t ≡ with_file s file.now) }
-    ensures kept { result ≢ DONE → object.new ≡ object.old }
-    ensures right_kind { IsIgnore (Some object.old) → result ≢ WRONG_KIND }
-    ensures other_kind { ¬ (IsIgnore (Some object.old)) → result ≡ WRONG_KIND }
-    ensures statuses { IsOneOf (DONE ∷ OUT_OF_MEMORY ∷ WRONG_KIND ∷ []) result }
-{
-    match object {
-        Object::Ignore(stack) => add_file_in(stack, file),
+    match ignore.as_mut() {
+        Object::Ignore(stack) => match stack.add_file(file) {
+            Ok(()) => DONE,
+            Err(_) => OUT_OF_MEMORY,
+        },
         _ => WRONG_KIND,
-    }
-}
-
-fn add_file_in(stack: &mut IgnoreStack, file: &[u8]) -> Status
-    ensures added { result ≡ DONE → stack.new ≡ with_file stack.old file.now }
-    ensures kept { result ≢ DONE → stack.new ≡ stack.old }
-    ensures statuses { IsOneOf (DONE ∷ OUT_OF_MEMORY ∷ []) result }
-{
-    match stack.add_file(file) {
-        Ok(()) => DONE,
-        Err(_) => OUT_OF_MEMORY,
     }
 }
 
 /// Goes down into a folder.
 #[unsafe(no_mangle)]
 pub extern "C" fn globset_raw_ignore_enter(ignore: &mut Owned, name: &[u8]) -> Status
+    // `ignore` owns an object before the call and after it, and the object changes only with DONE.
     requires owned { IsSome ignore.old.object }
     ensures owned { IsSome ignore.new.object }
     ensures entered { result ≡ DONE
         → IfIgnores ignore.old.object ignore.new.object (λ s t. t ≡ entered s name.now) }
     ensures kept { result ≢ DONE → ignore.new.object ≡ ignore.old.object }
+
+    // Only these statuses come, and the kind decides whether WRONG_KIND does.
     ensures right_kind { IsIgnore ignore.old.object → result ≢ WRONG_KIND }
     ensures other_kind { ¬ (IsIgnore ignore.old.object) → result ≡ WRONG_KIND }
     ensures statuses { IsOneOf (DONE ∷ OUT_OF_MEMORY ∷ WRONG_KIND ∷ []) result }
 {
-    enter_of(ignore.as_mut(), name)
-}
-
-fn enter_of(object: &mut Object, name: &[u8]) -> Status
-    ensures entered { result ≡ DONE
-        → IfIgnores (Some object.old) (Some object.new) (λ s t. t ≡ entered s name.now) }
-    ensures kept { result ≢ DONE → object.new ≡ object.old }
-    ensures right_kind { IsIgnore (Some object.old) → result ≢ WRONG_KIND }
-    ensures other_kind { ¬ (IsIgnore (Some object.old)) → result ≡ WRONG_KIND }
-    ensures statuses { IsOneOf (DONE ∷ OUT_OF_MEMORY ∷ WRONG_KIND ∷ []) result }
-{
-    match object {
-        Object::Ignore(stack) => enter_in(stack, name),
+    match ignore.as_mut() {
+        Object::Ignore(stack) => match stack.enter(name) {
+            Ok(()) => DONE,
+            Err(_) => OUT_OF_MEMORY,
+        },
         _ => WRONG_KIND,
-    }
-}
-
-fn enter_in(stack: &mut IgnoreStack, name: &[u8]) -> Status
-    ensures entered { result ≡ DONE → stack.new ≡ entered stack.old name.now }
-    ensures kept { result ≢ DONE → stack.new ≡ stack.old }
-    ensures statuses { IsOneOf (DONE ∷ OUT_OF_MEMORY ∷ []) result }
-{
-    match stack.enter(name) {
-        Ok(()) => DONE,
-        Err(_) => OUT_OF_MEMORY,
     }
 }
 
 /// Goes up to the folder above, without the ignore files that were added since it was left.
 #[unsafe(no_mangle)]
 pub extern "C" fn globset_raw_ignore_leave(ignore: &mut Owned) -> Status
+    // `ignore` owns an object before the call and after it, and the object changes only with DONE.
     requires owned { IsSome ignore.old.object }
     ensures owned { IsSome ignore.new.object }
     ensures left { result ≡ DONE
         → IfIgnores ignore.old.object ignore.new.object (λ s t. t ≡ left s) }
     ensures kept { result ≢ DONE → ignore.new.object ≡ ignore.old.object }
+
+    // The kind alone decides which status comes.
     ensures right_kind { IsIgnore ignore.old.object → result ≡ DONE }
     ensures statuses { IsOneOf (DONE ∷ WRONG_KIND ∷ []) result }
 {
-    leave_of(ignore.as_mut())
-}
-
-fn leave_of(object: &mut Object) -> Status
-    ensures left { result ≡ DONE
-        → IfIgnores (Some object.old) (Some object.new) (λ s t. t ≡ left s) }
-    ensures kept { result ≢ DONE → object.new ≡ object.old }
-    ensures right_kind { IsIgnore (Some object.old) → result ≡ DONE }
-    ensures statuses { IsOneOf (DONE ∷ WRONG_KIND ∷ []) result }
-{
-    match object {
+    match ignore.as_mut() {
         Object::Ignore(stack) => {
             stack.leave();
             DONE

@@ -3,19 +3,16 @@
 //! Each function that C calls is safe code. The memory behind what C owns and lends is reached by [`owned`] and [`lent`] alone.
 #![tactic(auto)]
 
+ghost use Rattle.std.specs.Prelude.{◌≡◌};
+
 mod answers;
 mod builders;
 mod error;
-mod error_texts;
-mod escaping;
-mod freeing;
-mod glob_parts;
 mod globs;
 mod ignore_lines;
 mod ignored;
 mod ignored_many;
 mod ignoring;
-mod indexes;
 mod lent;
 mod making;
 mod matchers;
@@ -26,13 +23,32 @@ mod paths;
 mod plain;
 mod read_glob;
 mod relations;
-mod searcher_indexes;
 mod searcher_many;
 mod searchers;
-mod set_of_globs;
 mod sets;
+mod slices;
 mod status;
-mod text;
 mod unreachable_rules;
-mod version;
-mod works;
+
+/// 0.4.21, the version of the Rust crate whose globs these are: 1,000,000 times the first number, 1,000 times the second, and
+/// the third.
+const VERSION: u32 = 4_021;
+
+/// The number of this interface, which grows when a function of it changes or goes.
+const INTERFACE: u32 = 1;
+
+/// Returns the version of the Rust crate whose globs these are.
+#[unsafe(no_mangle)]
+pub extern "C" fn globset_version() -> u32
+    ensures { result ≡ 4021 }
+{
+    VERSION
+}
+
+/// Returns the number of this interface.
+#[unsafe(no_mangle)]
+pub extern "C" fn globset_interface() -> u32
+    ensures { result ≡ 1 }
+{
+    INTERFACE
+}

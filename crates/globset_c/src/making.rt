@@ -1,6 +1,6 @@
-//! Objects that are handed out.
+//! Objects that are handed out, and freed.
 
-ghost use Rattle.std.specs.Prelude.{◌≡◌, ◌≢◌, Some, Err, [], ◌∷◌, IfOk, IsOk};
+ghost use Rattle.std.specs.Prelude.{◌≡◌, ◌≢◌, Some, Err, [], ◌∷◌, IfOk, IsOk, IsSome};
 ghost use Rattle.globset_c.specs.Statuses.{IsOneOf};
 ghost use Rattle.globset_c.specs.declared.object.Failure.TheVariants.{WrongKind};
 
@@ -35,4 +35,12 @@ pub fn give(alloc: Global, made: Result<Object, Failure>, out: &mut Owned) -> St
         Err(Failure::OutOfMemory) => OUT_OF_MEMORY,
         Err(Failure::WrongKind) => WRONG_KIND,
     }
+}
+
+/// Frees an object of any kind.
+#[unsafe(no_mangle)]
+pub extern "C" fn globset_raw_free(object: Owned)
+    requires owned { IsSome object.object }
+{
+    drop(object.into_box());
 }

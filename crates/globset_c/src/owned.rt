@@ -1,6 +1,6 @@
 //! An object as C owns it.
 
-ghost use Rattle.std.specs.Prelude.{◌≡◌, Option, None, Some, IsSome};
+ghost use Rattle.std.specs.Prelude.{◌≡◌, Option, Some, IsSome};
 ghost use Rattle.globset_c.specs.declared.object.Object.{Object};
 ghost use Rattle.std.specs.declared.boxed.Box.{Box};
 ghost use Rattle.std.specs.Global.{Global};
@@ -40,16 +40,6 @@ impl Owned {
         Owned::of_parts(Parts::of(object))
     }
 
-    /// Makes an owner of nothing.
-    fn none(alloc: Global) -> Owned
-        ensures { result.object ≡ None }
-    {
-        Owned {
-            at: std::ptr::null_mut(),
-            alloc,
-        }
-    }
-
     /// Returns the object.
     pub fn as_mut(&mut self) -> &mut Object
         requires owns { IsSome self.old.object }
@@ -57,25 +47,6 @@ impl Owned {
         ensures value { self.old.object ≡ Some result.now }
     {
         unsafe { &mut *(self.at as *mut Object) }
-    }
-
-    /// Takes the box out, so that nothing is owned until another is put in.
-    pub fn take(&mut self) -> Box<Object>
-        requires { IsSome self.old.object }
-        ensures { self.old.object ≡ Some result.value }
-    {
-        core::mem::replace_with(
-            self,
-            (),
-            |owned, ()|
-                requires owns { IsSome owned.object }
-                ensures { owned.object ≡ Some result.1.value }
-            {
-                let boxed = owned.into_box();
-                let alloc = *Box::allocator(&boxed);
-                (Owned::none(alloc), boxed)
-            },
-        )
     }
 
     /// Returns the box.

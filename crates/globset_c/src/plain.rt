@@ -1,6 +1,6 @@
 //! Plain calls: on a set or a matcher alone. They allocate the memory that they need.
 
-ghost use Rattle.std.specs.Prelude.{◌≡◌, ◌≢◌, Some, None, Err, [], ◌∷◌, IfOk, IfErr, true, false};
+ghost use Rattle.std.specs.Prelude.{◌≡◌, ◌≢◌, Some, Err, [], ◌∷◌, true, false, IfOk, IfErr};
 ghost use Rattle.glob_text.specs.GlobMatches.{glob_matches};
 ghost use Rattle.globset.specs.Answer.{matching_indexes};
 ghost use Rattle.globset.specs.SetValue.{set_globs};
@@ -12,84 +12,59 @@ ghost use Rattle.globset_c.specs.declared.object.Failure.TheVariants.{WrongKind}
 
 use crate::lent::Lent;
 use crate::object::{Failure, Object};
+use crate::slices;
 use crate::status::{DONE, NO, OUT_OF_MEMORY, Status, TOO_SMALL, WRONG_KIND, YES};
-use crate::text;
-use globset::{Candidate, GlobMatcher, GlobSet};
+use globset::{Candidate, GlobSet};
 use std::alloc::Global;
 
 /// Returns whether the glob of a matcher matches a path.
 #[unsafe(no_mangle)]
 pub extern "C" fn globset_raw_matcher_is_match_plain(matcher: &mut Lent, path: &[u8]) -> Status
+    // The answer is true, and the object stays as it was.
     ensures same_matcher { matcher.new ≡ matcher.old }
     ensures yes { result ≡ YES
         → IfMatcher (Some matcher.old.object) (λ m. glob_matches m path.now ≡ true) }
     ensures no { result ≡ NO
         → IfMatcher (Some matcher.old.object) (λ m. glob_matches m path.now ≡ false) }
+
+    // Only these statuses come, and the kind decides whether WRONG_KIND does.
     ensures right_kind { IsMatcher (Some matcher.old.object) → result ≢ WRONG_KIND }
     ensures other_kind { ¬ (IsMatcher (Some matcher.old.object)) → result ≡ WRONG_KIND }
     ensures statuses { IsOneOf (NO ∷ YES ∷ OUT_OF_MEMORY ∷ WRONG_KIND ∷ []) result }
 {
     // The borrow checker has to be told the type that is lent.
     let _object: Option<Object> = None;
-    matcher.read(path, |object, path| matcher_is_match_of(object, path))
-}
-
-fn matcher_is_match_of(object: &Object, path: &[u8]) -> Status
-    ensures yes { result ≡ YES
-        → IfMatcher (Some object.now) (λ m. glob_matches m path.now ≡ true) }
-    ensures no { result ≡ NO
-        → IfMatcher (Some object.now) (λ m. glob_matches m path.now ≡ false) }
-    ensures right_kind { IsMatcher (Some object.now) → result ≢ WRONG_KIND }
-    ensures other_kind { ¬ (IsMatcher (Some object.now)) → result ≡ WRONG_KIND }
-    ensures statuses { IsOneOf (NO ∷ YES ∷ OUT_OF_MEMORY ∷ WRONG_KIND ∷ []) result }
-{
-    match object {
-        Object::Matcher(matcher) => matcher_is_match_in(matcher, path),
+    matcher.read(path, |object, path| match object {
+        Object::Matcher(matcher) => match matcher.is_match_candidate(&Candidate::from_bytes(path)) {
+            Ok(true) => YES,
+            Ok(false) => NO,
+            Err(_) => OUT_OF_MEMORY,
+        },
         _ => WRONG_KIND,
-    }
-}
-
-fn matcher_is_match_in(matcher: &GlobMatcher, path: &[u8]) -> Status
-    ensures yes { result ≡ YES → glob_matches matcher.now path.now ≡ true }
-    ensures no { result ≡ NO → glob_matches matcher.now path.now ≡ false }
-    ensures statuses { IsOneOf (NO ∷ YES ∷ OUT_OF_MEMORY ∷ []) result }
-{
-    let Ok(is_match) = matcher.is_match_candidate(&Candidate::from_bytes(path)) else {
-        return OUT_OF_MEMORY;
-    };
-    if is_match { YES } else { NO }
+    })
 }
 
 /// Returns whether some glob of a set matches a path.
 #[unsafe(no_mangle)]
 pub extern "C" fn globset_raw_set_is_match_plain(set: &mut Lent, path: &[u8]) -> Status
+    // The answer is true, and the object stays as it was.
     ensures same_set { set.new ≡ set.old }
     ensures yes { result ≡ YES
         → IfSet (Some set.old.object) (λ s. matching_indexes (set_globs s) path.now ≢ []) }
     ensures no { result ≡ NO
         → IfSet (Some set.old.object) (λ s. matching_indexes (set_globs s) path.now ≡ []) }
+
+    // Only these statuses come, and the kind decides whether WRONG_KIND does.
     ensures right_kind { IsSet (Some set.old.object) → result ≢ WRONG_KIND }
     ensures other_kind { ¬ (IsSet (Some set.old.object)) → result ≡ WRONG_KIND }
     ensures statuses { IsOneOf (NO ∷ YES ∷ OUT_OF_MEMORY ∷ WRONG_KIND ∷ []) result }
 {
     // The borrow checker has to be told the type that is lent.
     let _object: Option<Object> = None;
-    set.read(path, |object, path| is_match_of(object, path))
-}
-
-fn is_match_of(object: &Object, path: &[u8]) -> Status
-    ensures yes { result ≡ YES
-        → IfSet (Some object.now) (λ s. matching_indexes (set_globs s) path.now ≢ []) }
-    ensures no { result ≡ NO
-        → IfSet (Some object.now) (λ s. matching_indexes (set_globs s) path.now ≡ []) }
-    ensures right_kind { IsSet (Some object.now) → result ≢ WRONG_KIND }
-    ensures other_kind { ¬ (IsSet (Some object.now)) → result ≡ WRONG_KIND }
-    ensures statuses { IsOneOf (NO ∷ YES ∷ OUT_OF_MEMORY ∷ WRONG_KIND ∷ []) result }
-{
-    match object {
+    set.read(path, |object, path| match object {
         Object::Set(set) => is_match_in(set, path),
         _ => WRONG_KIND,
-    }
+    })
 }
 
 #[tactic(auto, using(crate::proofs::Nil::nil_where_none))]
@@ -107,29 +82,22 @@ fn is_match_in(set: &GlobSet, path: &[u8]) -> Status
 /// Returns whether every glob of a set matches a path.
 #[unsafe(no_mangle)]
 pub extern "C" fn globset_raw_set_matches_all_plain(set: &mut Lent, path: &[u8]) -> Status
+    // The answer is true, and the object stays as it was.
     ensures same_set { set.new ≡ set.old }
     ensures yes { result ≡ YES → IfSet (Some set.old.object) (λ s. IsAll s path.now) }
     ensures no { result ≡ NO → IfSet (Some set.old.object) (λ s. ¬ (IsAll s path.now)) }
+
+    // Only these statuses come, and the kind decides whether WRONG_KIND does.
     ensures right_kind { IsSet (Some set.old.object) → result ≢ WRONG_KIND }
     ensures other_kind { ¬ (IsSet (Some set.old.object)) → result ≡ WRONG_KIND }
     ensures statuses { IsOneOf (NO ∷ YES ∷ OUT_OF_MEMORY ∷ WRONG_KIND ∷ []) result }
 {
     // The borrow checker has to be told the type that is lent.
     let _object: Option<Object> = None;
-    set.read(path, |object, path| matches_all_of(object, path))
-}
-
-fn matches_all_of(object: &Object, path: &[u8]) -> Status
-    ensures yes { result ≡ YES → IfSet (Some object.now) (λ s. IsAll s path.now) }
-    ensures no { result ≡ NO → IfSet (Some object.now) (λ s. ¬ (IsAll s path.now)) }
-    ensures right_kind { IsSet (Some object.now) → result ≢ WRONG_KIND }
-    ensures other_kind { ¬ (IsSet (Some object.now)) → result ≡ WRONG_KIND }
-    ensures statuses { IsOneOf (NO ∷ YES ∷ OUT_OF_MEMORY ∷ WRONG_KIND ∷ []) result }
-{
-    match object {
+    set.read(path, |object, path| match object {
         Object::Set(set) => matches_all_in(set, path),
         _ => WRONG_KIND,
-    }
+    })
 }
 
 fn matches_all_in(set: &GlobSet, path: &[u8]) -> Status
@@ -152,13 +120,18 @@ pub extern "C" fn globset_raw_set_matches_plain(
     room: &mut [usize],
     needed: &mut usize,
 ) -> Status
-    ensures same_set { set.new ≡ set.old }
+    // With DONE the call writes the indexes and their number, and with TOO_SMALL the number alone.
     ensures done { result ≡ DONE → IfSet (Some set.old.object) (λ s.
         IsWritten (matching_indexes (set_globs s) path.now) room.old room.new needed.new) }
     ensures too_small { result ≡ TOO_SMALL → IfSet (Some set.old.object) (λ s.
         IsTooLong (matching_indexes (set_globs s) path.now) room.old room.new needed.new) }
+
+    // `set` never changes, `room` only with DONE, and `needed` only with DONE or TOO_SMALL.
+    ensures same_set { set.new ≡ set.old }
     ensures refused { result ≢ DONE → room.new ≡ room.old }
     ensures same_needed { result ≢ DONE → result ≢ TOO_SMALL → needed.new ≡ needed.old }
+
+    // Only these statuses come, and the kind decides whether WRONG_KIND does.
     ensures right_kind { IsSet (Some set.old.object) → result ≢ WRONG_KIND }
     ensures other_kind { ¬ (IsSet (Some set.old.object)) → result ≡ WRONG_KIND }
     ensures statuses { IsOneOf (DONE ∷ OUT_OF_MEMORY ∷ WRONG_KIND ∷ TOO_SMALL ∷ []) result }
@@ -170,7 +143,7 @@ pub extern "C" fn globset_raw_set_matches_plain(
         |object, (alloc, path)| matches_of(alloc, object, path),
     );
     match found {
-        Ok(found) => text::write(&found, room, needed),
+        Ok(found) => slices::write(&found, room, needed),
         Err(Failure::OutOfMemory) => OUT_OF_MEMORY,
         Err(Failure::WrongKind) => WRONG_KIND,
     }

@@ -13,7 +13,7 @@ use crate::lent::Lent;
 use crate::making::give;
 use crate::object::{Failure, Object};
 use crate::owned::Owned;
-use crate::set_of_globs::{are_globs, lends_glob};
+use crate::sets::{are_globs, lends_glob};
 use crate::status::{DONE, OUT_OF_MEMORY, Status, UNKNOWN_OPTION, WRONG_KIND};
 use glob_relations::{Decides, Domain, covering, overlap, unreachable};
 use globset::Glob;
@@ -29,15 +29,19 @@ pub extern "C" fn globset_raw_covering(
     limit: usize,
     out: &mut Owned,
 ) -> Status
+    // Only `out` changes, and only with DONE.
     ensures same_glob { glob.new ≡ glob.old }
     ensures same_globs { by.new ≡ by.old }
     ensures told { result ≡ DONE
         → AnswersCovering glob.old.object (lent_globs by.old) (domain_of domain) limit
         out.new.object }
     ensures refused { result ≢ DONE → out.new ≡ out.old }
+
     // The domain is looked at first, and then the kinds.
     ensures unknown { result ≡ UNKNOWN_OPTION → ¬ (IsDomain domain) }
     ensures known { result ≢ UNKNOWN_OPTION → IsDomain domain }
+
+    // Only these statuses come, and the kinds decide whether WRONG_KIND does.
     ensures right_kind { IsGlob (Some glob.old.object) → AreGlobs by.old → result ≢ WRONG_KIND }
     ensures other_kind { IsDomain domain → ¬ (IsGlob (Some glob.old.object))
         → result ≡ WRONG_KIND }
@@ -58,10 +62,13 @@ fn answer_covering(
     domain: Domain,
     limit: usize,
 ) -> Result<Object, Failure>
+    // The answer is about the globs, which stay as they were.
     ensures same_glob { glob.new ≡ glob.old }
     ensures same_globs { by.new ≡ by.old }
     ensures told { IfOk result
         (λ made. AnswersCovering glob.old.object (lent_globs by.old) domain limit (Some made)) }
+
+    // The kinds decide whether WrongKind comes.
     ensures wrong_kind { IfErr result
         (λ why. why ≡ WrongKind → IsGlob (Some glob.old.object) → ¬ (AreGlobs by.old)) }
     ensures other_kind { ¬ (IsGlob (Some glob.old.object)) → result ≡ Err WrongKind }
@@ -90,14 +97,18 @@ pub extern "C" fn globset_raw_overlap(
     limit: usize,
     out: &mut Owned,
 ) -> Status
+    // Only `out` changes, and only with DONE.
     ensures same_a { a.new ≡ a.old }
     ensures same_b { b.new ≡ b.old }
     ensures told { result ≡ DONE
         → AnswersOverlap a.old.object b.old.object (domain_of domain) limit out.new.object }
     ensures refused { result ≢ DONE → out.new ≡ out.old }
+
     // The domain is looked at first, and then the kinds.
     ensures unknown { result ≡ UNKNOWN_OPTION → ¬ (IsDomain domain) }
     ensures known { result ≢ UNKNOWN_OPTION → IsDomain domain }
+
+    // Only these statuses come, and the kinds decide whether WRONG_KIND does.
     ensures right_kind { IsGlob (Some a.old.object) → IsGlob (Some b.old.object)
         → result ≢ WRONG_KIND }
     ensures a_of_other_kind { IsDomain domain → ¬ (IsGlob (Some a.old.object))
@@ -121,10 +132,13 @@ fn answer_overlap(
     domain: Domain,
     limit: usize,
 ) -> Result<Object, Failure>
+    // The answer is about the globs, which stay as they were.
     ensures same_a { a.new ≡ a.old }
     ensures same_b { b.new ≡ b.old }
     ensures told { IfOk result
         (λ made. AnswersOverlap a.old.object b.old.object domain limit (Some made)) }
+
+    // The kinds decide whether WrongKind comes.
     ensures wrong_kind { IfErr result (λ why. why ≡ WrongKind → IsGlob (Some a.old.object)
         → ¬ (IsGlob (Some b.old.object))) }
     ensures a_of_other_kind { ¬ (IsGlob (Some a.old.object)) → result ≡ Err WrongKind }
@@ -152,6 +166,7 @@ pub extern "C" fn globset_raw_unreachable(
     limit: usize,
     out: &mut Owned,
 ) -> Status
+    // Only `out` changes, and only with DONE.
     ensures same_globs { globs.new ≡ globs.old }
     ensures len { result ≡ DONE
         → IfReachabilities out.new.object (λ told. length told ≡ length globs.old) }
@@ -159,9 +174,12 @@ pub extern "C" fn globset_raw_unreachable(
         → AnswersUnreachable (lent_globs globs.old) (decides_of decides) (domain_of domain) limit
         out.new.object }
     ensures refused { result ≢ DONE → out.new ≡ out.old }
+
     // The numbers are looked at first, and then the kinds.
     ensures unknown { result ≡ UNKNOWN_OPTION → IsDecides decides → ¬ (IsDomain domain) }
     ensures known { result ≢ UNKNOWN_OPTION → IsDecides decides × IsDomain domain }
+
+    // Only these statuses come, and the kinds decide whether WRONG_KIND does.
     ensures right_kind { AreGlobs globs.old → result ≢ WRONG_KIND }
     ensures other_kind { IsDecides decides → IsDomain domain → ¬ (AreGlobs globs.old)
         → result ≡ WRONG_KIND }

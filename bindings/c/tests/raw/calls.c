@@ -86,6 +86,17 @@ static void nothing_said(void) {
     }
 }
 
+/* Frees the glob and its matcher. */
+static raw_matcher_searcher matcher_searcher_of(raw_glob glob) {
+    raw_matcher matcher;
+    raw_matcher_searcher searcher;
+    CHECK(raw_matcher_new(glob, &matcher) == GLOBSET_DONE);
+    raw_glob_free(glob);
+    CHECK(raw_matcher_searcher_new(matcher, &searcher) == GLOBSET_DONE);
+    raw_matcher_free(matcher);
+    return searcher;
+}
+
 /* Each option decides one path, which the default decides otherwise. */
 static void options(void) {
     static const struct {
@@ -97,17 +108,13 @@ static void options(void) {
         {GLOBSET_NO_BACKSLASH_ESCAPE, "a\\*", "a\\b", 0, 1}, {GLOBSET_EMPTY_ALTERNATES, "a{,b}", "a", 0, 1},
         {GLOBSET_WHOLE_CHARACTER, "?", "\xc3\xa9", 0, 1},
     };
-    raw_work work;
-    CHECK(raw_work_new(&work) == GLOBSET_DONE);
     for (size_t i = 0; i < sizeof rows / sizeof *rows; i++) {
         for (int with = 0; with < 2; with++) {
             raw_glob glob = glob_of(rows[i].text, with ? rows[i].bits : 0);
-            raw_matcher matcher;
-            CHECK(raw_matcher_new(glob, &matcher) == GLOBSET_DONE);
-            raw_glob_free(glob);
+            raw_matcher_searcher searcher = matcher_searcher_of(glob);
             int wanted = with ? rows[i].with : rows[i].by_default;
-            CHECK(raw_matcher_is_match(matcher, &work, TEXT(rows[i].path)) == (wanted ? GLOBSET_YES : GLOBSET_NO));
-            raw_matcher_free(matcher);
+            CHECK(raw_matcher_searcher_is_match(&searcher, TEXT(rows[i].path)) == (wanted ? GLOBSET_YES : GLOBSET_NO));
+            raw_matcher_searcher_free(searcher);
         }
     }
     globset_error error;
@@ -116,30 +123,23 @@ static void options(void) {
     raw_glob_free(glob);
     glob = glob_of("x", 63);
     raw_glob_free(glob);
-    raw_work_free(work);
 }
 
 /* A text and paths with NULs, and paths that are not UTF-8. */
 static void bytes(void) {
     globset_error error;
     raw_glob glob;
-    raw_matcher matcher;
-    raw_work work;
-    CHECK(raw_work_new(&work) == GLOBSET_DONE);
     CHECK(raw_glob_new("a\0*", 3, 0, &error, &glob) == GLOBSET_DONE);
-    CHECK(raw_matcher_new(glob, &matcher) == GLOBSET_DONE);
-    CHECK(raw_matcher_is_match(matcher, &work, "a\0\0b", 4) == GLOBSET_YES);
-    CHECK(raw_matcher_is_match(matcher, &work, "a\0\xff", 3) == GLOBSET_YES);
-    CHECK(raw_matcher_is_match(matcher, &work, "a", 1) == GLOBSET_NO);
-    raw_glob_free(glob);
-    raw_matcher_free(matcher);
+    raw_matcher_searcher searcher = matcher_searcher_of(glob);
+    CHECK(raw_matcher_searcher_is_match(&searcher, "a\0\0b", 4) == GLOBSET_YES);
+    CHECK(raw_matcher_searcher_is_match(&searcher, "a\0\xff", 3) == GLOBSET_YES);
+    CHECK(raw_matcher_searcher_is_match(&searcher, "a", 1) == GLOBSET_NO);
+    raw_matcher_searcher_free(searcher);
     CHECK(raw_glob_new(NULL, 0, 0, &error, &glob) == GLOBSET_DONE);
-    CHECK(raw_matcher_new(glob, &matcher) == GLOBSET_DONE);
-    CHECK(raw_matcher_is_match(matcher, &work, NULL, 0) == GLOBSET_YES);
-    CHECK(raw_matcher_is_match(matcher, &work, "a", 1) == GLOBSET_NO);
-    raw_glob_free(glob);
-    raw_matcher_free(matcher);
-    raw_work_free(work);
+    searcher = matcher_searcher_of(glob);
+    CHECK(raw_matcher_searcher_is_match(&searcher, NULL, 0) == GLOBSET_YES);
+    CHECK(raw_matcher_searcher_is_match(&searcher, "a", 1) == GLOBSET_NO);
+    raw_matcher_searcher_free(searcher);
 }
 
 static void texts(void) {
@@ -186,15 +186,11 @@ static void parts(void) {
     raw_glob_free(empty);
 }
 
-/* How many globs there are in a set. A work fits one set after the other. */
+/* How many globs there are in a set. */
 static void sets(void) {
     static const char *const globs[] = {"*.c", "src/*", "**/..", "*a*b*"};
     raw_set set = set_of(globs, 4), empty = set_of(globs, 0);
-    raw_work work;
     CHECK(raw_set_len(set) == 4 && raw_set_len(empty) == 0);
-    CHECK(raw_work_new(&work) == GLOBSET_DONE);
-    CHECK(raw_work_fit_set(&work, set) == GLOBSET_DONE && raw_work_fit_set(&work, empty) == GLOBSET_DONE);
-    raw_work_free(work);
     raw_set_free(set);
     raw_set_free(empty);
 }
@@ -473,12 +469,13 @@ static void wrong_kinds(void) {
     raw_matcher matcher;
     raw_builder builder;
     raw_set set = set_of(globs, 1);
-    raw_work work;
+    raw_matcher_searcher of_matcher;
     raw_searcher searcher;
     CHECK(raw_matcher_new(glob, &matcher) == GLOBSET_DONE && raw_searcher_new(set, &searcher) == GLOBSET_DONE);
-    CHECK(raw_builder_new(&builder) == GLOBSET_DONE && raw_work_new(&work) == GLOBSET_DONE);
-    globset_owned *const objects[6] = {&glob.object, &matcher.object, &builder.object,
-                                       &set.object,  &work.object,    &searcher.object};
+    CHECK(raw_builder_new(&builder) == GLOBSET_DONE);
+    CHECK(raw_matcher_searcher_new(matcher, &of_matcher) == GLOBSET_DONE);
+    globset_owned *const objects[6] = {&glob.object, &matcher.object,    &builder.object,
+                                       &set.object,  &of_matcher.object, &searcher.object};
     const uint8_t *path = (const uint8_t *)"a.c";
     for (int i = 0; i < 6; i++) {
         globset_lent lent = raw_lend(*objects[i]);
@@ -491,15 +488,13 @@ static void wrong_kinds(void) {
         CHECK(i == 0 || (globset_raw_glob_options(&lent, &options) == GLOBSET_WRONG_KIND && options == 9));
         CHECK(i == 0 || globset_raw_matcher_new(&lent, &out) == GLOBSET_WRONG_KIND);
         CHECK(i == 0 || i == 2 || globset_raw_builder_add(&builder.object, &lent) == GLOBSET_WRONG_KIND);
-        CHECK(i == 1 || i == 4 || globset_raw_matcher_is_match(&lent, &work.object, path, 3) == GLOBSET_WRONG_KIND);
+        CHECK(i == 1 || globset_raw_matcher_searcher_new(&lent, &out) == GLOBSET_WRONG_KIND);
         CHECK(i == 3 || globset_raw_set_len(&lent, &size) == GLOBSET_WRONG_KIND);
         CHECK(i == 3 || globset_raw_searcher_new(&lent, &out) == GLOBSET_WRONG_KIND);
-        CHECK(i == 1 || i == 3 || i == 4 || globset_raw_work_fit(&work.object, &lent) == GLOBSET_WRONG_KIND);
-        globset_lent lent_set = raw_lend(set.object);
         globset_lent globs_and_other[2] = {raw_lend(glob.object), lent};
         CHECK(i == 0 || globset_raw_set_of_globs(globs_and_other, 2, &out) == GLOBSET_WRONG_KIND);
         CHECK(byte == 9 && size == 9 && out.at == &lent);
-        CHECK(i == 3 || i == 4 || globset_raw_work_fit(objects[i], &lent_set) == GLOBSET_WRONG_KIND);
+        CHECK(i == 4 || globset_raw_matcher_searcher_is_match(objects[i], path, 3) == GLOBSET_WRONG_KIND);
         CHECK(i == 2 || globset_raw_builder_build(objects[i], &out) == GLOBSET_WRONG_KIND);
         CHECK(globset_raw_builder_set_dfa_size_limit(objects[i], 0) == (i == 2 ? GLOBSET_DONE : GLOBSET_WRONG_KIND));
         if (i < 5) no_searcher(objects[i]);
@@ -509,13 +504,13 @@ static void wrong_kinds(void) {
     CHECK(globset_raw_builder_add(&set.object, &lent_glob) == GLOBSET_WRONG_KIND);
     CHECK(globset_raw_builder_build(&set.object, &out) == GLOBSET_WRONG_KIND && out.at == &lent_glob);
     CHECK(raw_set_len(set) == 1);
-    CHECK(raw_matcher_is_match(matcher, &work, "a.c", 3) == GLOBSET_YES);
+    CHECK(raw_matcher_searcher_is_match(&of_matcher, "a.c", 3) == GLOBSET_YES);
     CHECK(raw_searcher_is_match(&searcher, "a.c", 3) == GLOBSET_YES);
     raw_glob_free(glob);
     raw_matcher_free(matcher);
     raw_builder_free(builder);
     raw_set_free(set);
-    raw_work_free(work);
+    raw_matcher_searcher_free(of_matcher);
     raw_searcher_free(searcher);
 }
 

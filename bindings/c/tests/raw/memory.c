@@ -53,23 +53,16 @@ static void try_set_of_globs(void) {
     raw_set_free(set);
 }
 
-/* A new work is grown by a question or by raw_work_fit. Once it fits, neither takes memory. */
-static void try_works(raw_set set, raw_matcher matcher) {
-    for (int by_question = 0; by_question < 2; by_question++) {
-        raw_work work;
-        TRY(raw_work_new(&work), GLOBSET_DONE, CHECK(blocks == before));
-        for (int again = 0; again < 2; again++) {
-            long before_all = failures;
-            if (by_question) {
-                TRY(raw_matcher_is_match(matcher, &work, TEXT("abc")), GLOBSET_YES, );
-            } else {
-                TRY(raw_work_fit_set(&work, set), GLOBSET_DONE, );
-                TRY(raw_work_fit_matcher(&work, matcher), GLOBSET_DONE, );
-            }
-            CHECK(again == 0 || failures == before_all);
-        }
-        raw_work_free(work);
-    }
+/* Once a searcher is made, no question about a path takes memory. */
+static void try_matcher_searcher(raw_matcher matcher) {
+    raw_matcher_searcher searcher = {{&searcher}};
+    TRY(raw_matcher_searcher_new(matcher, &searcher), GLOBSET_DONE,
+        CHECK(blocks == before && searcher.object.at == &searcher));
+    left = 0;
+    CHECK(raw_matcher_searcher_is_match(&searcher, TEXT("abc")) == GLOBSET_YES);
+    CHECK(raw_matcher_searcher_is_match(&searcher, TEXT("acb")) == GLOBSET_NO);
+    left = -1;
+    raw_matcher_searcher_free(searcher);
 }
 
 /* A plain call that fails gives back what it took. Others may leave rows, which the set and the matcher keep until they
@@ -206,7 +199,7 @@ int main(void) {
     raw_matcher matcher;
     raw_set set = try_making(&matcher);
     try_set_of_globs();
-    try_works(set, matcher);
+    try_matcher_searcher(matcher);
     try_plain(set, matcher);
     try_searcher(set);
     try_relations();

@@ -91,7 +91,8 @@ static void threads(void) {
     static int shifts[THREADS];
     pthread_t asking[THREADS];
     for (int i = 0; i < GLOBS; i++) {
-        snprintf(texts[i], sizeof texts[i], "*%c*%c*%c*", 'a' + i % 26, 'a' + (i * 7 + 3) % 26, 'a' + (i * 11 + 5) % 26);
+        snprintf(texts[i], sizeof texts[i], "*%c*%c*%c*", 'a' + i % 26, 'a' + (i * 7 + 3) % 26,
+                 'a' + (i * 11 + 5) % 26);
         globs[i] = texts[i];
     }
     set = set_of(globs, GLOBS);

@@ -9,15 +9,15 @@ typedef struct raw_glob {
 typedef struct raw_matcher {
     globset_owned object;
 } raw_matcher;
+typedef struct raw_matcher_searcher {
+    globset_owned object;
+} raw_matcher_searcher;
 typedef struct raw_builder {
     globset_owned object;
 } raw_builder;
 typedef struct raw_set {
     globset_owned object;
 } raw_set;
-typedef struct raw_work {
-    globset_owned object;
-} raw_work;
 typedef struct raw_searcher {
     globset_owned object;
 } raw_searcher;
@@ -80,10 +80,16 @@ static inline globset_status raw_matcher_new(raw_glob glob, raw_matcher *out) {
 
 static inline void raw_matcher_free(raw_matcher matcher) { globset_raw_free(matcher.object); }
 
-static inline globset_status raw_matcher_is_match(raw_matcher matcher, raw_work *work, const void *path,
-                                                  size_t path_len) {
+static inline globset_status raw_matcher_searcher_new(raw_matcher matcher, raw_matcher_searcher *out) {
     globset_lent lent = raw_lend(matcher.object);
-    return globset_raw_matcher_is_match(&lent, &work->object, raw_bytes(path), path_len);
+    return globset_raw_matcher_searcher_new(&lent, &out->object);
+}
+
+static inline void raw_matcher_searcher_free(raw_matcher_searcher searcher) { globset_raw_free(searcher.object); }
+
+static inline globset_status raw_matcher_searcher_is_match(raw_matcher_searcher *searcher, const void *path,
+                                                           size_t path_len) {
+    return globset_raw_matcher_searcher_is_match(&searcher->object, raw_bytes(path), path_len);
 }
 
 static inline globset_status raw_builder_new(raw_builder *out) { return globset_raw_builder_new(&out->object); }
@@ -110,20 +116,6 @@ static inline size_t raw_set_len(raw_set set) {
     size_t len = 0;
     globset_raw_set_len(&lent, &len);
     return len;
-}
-
-static inline globset_status raw_work_new(raw_work *out) { return globset_raw_work_new(&out->object); }
-
-static inline void raw_work_free(raw_work work) { globset_raw_free(work.object); }
-
-static inline globset_status raw_work_fit_set(raw_work *work, raw_set set) {
-    globset_lent lent = raw_lend(set.object);
-    return globset_raw_work_fit(&work->object, &lent);
-}
-
-static inline globset_status raw_work_fit_matcher(raw_work *work, raw_matcher matcher) {
-    globset_lent lent = raw_lend(matcher.object);
-    return globset_raw_work_fit(&work->object, &lent);
 }
 
 /* The set of globs that are lent by an array of handles. */

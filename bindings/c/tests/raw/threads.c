@@ -1,5 +1,5 @@
-/* Eight threads, one set and one matcher, which each thread borrows. Each has a work and a searcher of its own. The
- * searchers are freed by another thread, after the set. */
+/* Eight threads, one set and one matcher, which each thread borrows. Each has a searcher of its own of both. Those of the
+ * set are freed by another thread, after the set. */
 #include "raw.h"
 
 #include <pthread.h>
@@ -17,18 +17,19 @@ static const int by_matcher[PATHS] = {1, 0, 0, 1, 1, 0, 0, 0};
 
 static void *ask(void *searcher_at) {
     raw_searcher *searcher = searcher_at;
-    raw_work work;
+    raw_matcher_searcher of_matcher;
     globset_indexes found;
-    CHECK(raw_work_new(&work) == GLOBSET_DONE && raw_work_fit_set(&work, set) == GLOBSET_DONE);
+    CHECK(raw_matcher_searcher_new(matcher, &of_matcher) == GLOBSET_DONE);
     CHECK(raw_searcher_new(set, searcher) == GLOBSET_DONE);
     for (int round = 0; round < ROUNDS; round++) {
         for (int i = 0; i < PATHS; i++) {
-            CHECK(raw_matcher_is_match(matcher, &work, TEXT(paths[i])) == (by_matcher[i] ? GLOBSET_YES : GLOBSET_NO));
+            CHECK(raw_matcher_searcher_is_match(&of_matcher, TEXT(paths[i])) ==
+                  (by_matcher[i] ? GLOBSET_YES : GLOBSET_NO));
             CHECK(raw_searcher_matches(searcher, TEXT(paths[i]), &found) == GLOBSET_DONE && found.count == counts[i]);
             CHECK(raw_searcher_is_match(searcher, TEXT(paths[i])) == (counts[i] > 0 ? GLOBSET_YES : GLOBSET_NO));
         }
     }
-    raw_work_free(work);
+    raw_matcher_searcher_free(of_matcher);
     return NULL;
 }
 

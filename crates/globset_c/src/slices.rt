@@ -1,11 +1,22 @@
-//! Texts and indexes that are written into a caller's room.
+//! Slices for C: those that objects lend, and those that are written into a caller's room.
 
-ghost use Rattle.std.specs.Prelude.{◌≡◌, ◌≢◌};
+ghost use Rattle.std.specs.Prelude.{◌≡◌, ◌≢◌, [], ◌∷◌};
 ghost use Rattle.globset_c.specs.Capacity.{IsWritten, IsTooLong};
 ghost use Rattle.globset_c.specs.Statuses.{IsOneOf};
-ghost use Rattle.std.specs.Prelude.{[], ◌∷◌};
 
 use crate::status::{DONE, Status, TOO_SMALL};
+
+/// Bytes that answers or a walk lend.
+#[repr(C)]
+pub struct Bytes<'a> {
+    pub items: &'a [u8],
+}
+
+/// Indexes that a searcher or answers lend, or numbers of lines that answers or a walk lend.
+#[repr(C)]
+pub struct Indexes<'a> {
+    pub items: &'a [usize],
+}
 
 /// Writes a text or indexes to the beginning of the room, if they are not too long, and says how long they are.
 pub fn write<T: Copy>(items: &[T], room: &mut [T], needed: &mut usize) -> Status

@@ -1,7 +1,7 @@
 use Rattle.std.proofs.Common.{◌≡◌, length}
 use Rattle.globset.specs.SetValue.{set_globs}
 use Rattle.globset_c.specs.Paths.{AreEnds, last_indexes_for}
-use Rattle.globset_c.proofs.searcher_indexes.find_last.Given as goal
+use Rattle.globset_c.proofs.searcher_many.find_last.Given as goal
 
 -- The last path of the ends that are left is that of all ends.
 abbrev pub invariant-each : goal.invariant-each

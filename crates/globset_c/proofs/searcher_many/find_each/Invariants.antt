@@ -1,7 +1,7 @@
 use Rattle.std.proofs.Common.{◌≡◌, ◌++◌, ◌+◌, length}
 use Rattle.globset.specs.SetValue.{set_globs}
 use Rattle.globset_c.specs.Paths.{AreEnds, ends_among, indexes_for, index_ends_for, last_indexes_for, paths_from}
-use Rattle.globset_c.proofs.searcher_indexes.find_each.Given as goal
+use Rattle.globset_c.proofs.searcher_many.find_each.Given as goal
 
 -- The indexes so far, and those of the ends that are left, are those of all ends, and so it is with where they end.
 abbrev pub invariant-each : goal.invariant-each

@@ -1,7 +1,7 @@
 use Rattle.std.proofs.Common.{◌≡◌, length}
 use Rattle.std.specs.Prelude.{take}
 use Rattle.globset_c.specs.LentGlobs.{lent_globs}
-use Rattle.globset_c.proofs.set_of_globs.set_of.Given as goal
+use Rattle.globset_c.proofs.sets.set_of.Given as goal
 
 -- The handles are as they were, and the globs so far are added.
 abbrev pub invariant-loop-i : goal.invariant-loop-i

@@ -4,7 +4,7 @@ use Rattle.std.proofs.lemmas.List.{set-get_or}
 use Rattle.globset_c.specs.declared.lent.Lent.{Lent}
 use Rattle.globset_c.specs.Kinds.{IsGlob}
 use Rattle.globset_c.proofs.LentGlobs.{next_are_globs}
-use Rattle.globset_c.proofs.set_of_globs.are_globs.Goals as goal
+use Rattle.globset_c.proofs.sets.are_globs.Goals as goal
 
 -- The handle is put back as it was, and one more is of a glob.
 pub loop-i-preserved : goal.loop-i-preserved

@@ -2,7 +2,7 @@ use Rattle.std.proofs.Common.{◌≡◌, ◌∷◌, arith}
 use Rattle.std.proofs.lemmas.Grind.{common_steps}
 use Rattle.globset_c.proofs.Ends.{ends_part}
 use Rattle.globset_c.proofs.ManyIndexes.{skip}
-use Rattle.globset_c.proofs.searcher_indexes.find_last.Goals as goal
+use Rattle.globset_c.proofs.searcher_many.find_last.Goals as goal
 
 pub each-preserved : goal.each-preserved
 each-preserved c =

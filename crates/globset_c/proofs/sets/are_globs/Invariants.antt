@@ -1,7 +1,7 @@
 use Rattle.std.proofs.Common.{◌≡◌}
 use Rattle.std.specs.Prelude.{take}
 use Rattle.globset_c.specs.LentGlobs.{AreGlobs}
-use Rattle.globset_c.proofs.set_of_globs.are_globs.Given as goal
+use Rattle.globset_c.proofs.sets.are_globs.Given as goal
 
 -- The handles are as they were, and those so far are of globs.
 abbrev pub invariant-loop-i : goal.invariant-loop-i
