@@ -88,8 +88,8 @@ fn texts_are_paths(rt: HostRuntime) -> Result<(), AllocError> {
 /// The kinds of keys.
 #[derive(Clone, Copy)]
 enum Kind {
-    WholePath,
-    Basename,
+    Literal,
+    BasenameLiteral,
     Extension,
     ComponentSuffix,
     Suffix,
@@ -100,8 +100,8 @@ enum Kind {
 fn key(alloc: Global, kind: Kind, text: &str) -> Result<Key, AllocError> {
     let bytes = Vec::from_slice(alloc, text.as_bytes())?;
     Ok(match kind {
-        Kind::WholePath => Key::WholePath(bytes),
-        Kind::Basename => Key::Basename(bytes),
+        Kind::Literal => Key::Literal(bytes),
+        Kind::BasenameLiteral => Key::BasenameLiteral(bytes),
         Kind::Extension => Key::Extension(bytes),
         Kind::ComponentSuffix => Key::ComponentSuffix(bytes),
         Kind::Suffix => Key::Suffix(bytes),
@@ -112,20 +112,20 @@ fn key(alloc: Global, kind: Kind, text: &str) -> Result<Key, AllocError> {
 /// A key, paths that it matches, and others.
 const MATCHED: [(Kind, &str, &[&str], &[&str]); 13] = [
     (
-        Kind::WholePath,
+        Kind::Literal,
         "a/b",
         &["a/b"],
         &["a/b/", "x/a/b", "a", ""],
     ),
-    (Kind::WholePath, "", &[""], &["a"]),
+    (Kind::Literal, "", &[""], &["a"]),
     (
-        Kind::Basename,
+        Kind::BasenameLiteral,
         "a",
         &["a", "x/a", "/a"],
         &["xa", "a/", "a/x"],
     ),
-    (Kind::Basename, "..", &["..", "x/.."], &["x", ""]),
-    (Kind::Basename, "", &["", "a/"], &["a"]),
+    (Kind::BasenameLiteral, "..", &["..", "x/.."], &["x", ""]),
+    (Kind::BasenameLiteral, "", &["", "a/"], &["a"]),
     (
         Kind::Extension,
         ".c",
@@ -166,10 +166,10 @@ fn keys_match_paths(rt: HostRuntime) -> Result<(), AllocError> {
 
 /// A key, directories below which it may match some path, and others.
 const BELOW: [(Kind, &str, &[&str], &[&str]); 11] = [
-    (Kind::WholePath, "a/b", &["a"], &["", "b", "a/b", "a/"]),
-    (Kind::WholePath, "/a", &[""], &["a", "/a"]),
-    (Kind::WholePath, "a//b", &["a", "a/"], &["a//"]),
-    (Kind::WholePath, "a/", &["a"], &["a/"]),
+    (Kind::Literal, "a/b", &["a"], &["", "b", "a/b", "a/"]),
+    (Kind::Literal, "/a", &[""], &["a", "/a"]),
+    (Kind::Literal, "a//b", &["a", "a/"], &["a//"]),
+    (Kind::Literal, "a/", &["a"], &["a/"]),
     (
         Kind::Prefix,
         "a/b",
@@ -178,7 +178,7 @@ const BELOW: [(Kind, &str, &[&str], &[&str]); 11] = [
     ),
     (Kind::Prefix, "a/", &["a", "a/", "a/b"], &["", "ab"]),
     (Kind::Prefix, "", &["", "a"], &[]),
-    (Kind::Basename, "a", &["", "b"], &[]),
+    (Kind::BasenameLiteral, "a", &["", "b"], &[]),
     (Kind::Extension, ".a", &["", "b"], &[]),
     (Kind::ComponentSuffix, "a/b", &["", "c"], &[]),
     (Kind::Suffix, "a", &["", "b"], &[]),
@@ -228,13 +228,13 @@ fn found(alloc: Global, index: &LiteralIndex, path: &str) -> Result<Vec<usize>, 
 
 /// Keys of each kind, and one of them twice.
 const KEYS: [(Kind, &str); 7] = [
-    (Kind::WholePath, "a/b.c"),
-    (Kind::Basename, "b.c"),
+    (Kind::Literal, "a/b.c"),
+    (Kind::BasenameLiteral, "b.c"),
     (Kind::Extension, ".c"),
     (Kind::ComponentSuffix, "a/b.c"),
     (Kind::Suffix, "b.c"),
     (Kind::Prefix, "a/"),
-    (Kind::WholePath, "a/b.c"),
+    (Kind::Literal, "a/b.c"),
 ];
 
 /// A path, and the places of the keys that match it.
@@ -276,8 +276,8 @@ fn found_indexes_are_added_where_there_is_room(rt: HostRuntime) -> Result<(), Al
     let alloc = rt.alloc();
     let mut builder = LiteralIndexBuilder::new(alloc);
     for (kind, index) in [
-        (Kind::WholePath, 3),
-        (Kind::Basename, 3),
+        (Kind::Literal, 3),
+        (Kind::BasenameLiteral, 3),
         (Kind::Suffix, 100),
     ] {
         builder.add(key(alloc, kind, "a")?, index)?;
@@ -304,8 +304,8 @@ fn index_says_what_is_looked_up(rt: HostRuntime) -> Result<(), AllocError> {
     assert!(rt; none.is_empty() && !none.uses_last_component() && !none.uses_extension());
     assert!(rt; found(alloc, &none, "")?.is_empty());
     let rows = [
-        (Kind::WholePath, false, false),
-        (Kind::Basename, true, false),
+        (Kind::Literal, false, false),
+        (Kind::BasenameLiteral, true, false),
         (Kind::Extension, false, true),
         (Kind::ComponentSuffix, false, false),
         (Kind::Suffix, false, false),
@@ -323,39 +323,39 @@ fn index_says_what_is_looked_up(rt: HostRuntime) -> Result<(), AllocError> {
 /// Keys, directories below which one of them may match some path, and others.
 const INDEX_BELOW: [(&[(Kind, &str)], &[&str], &[&str]); 8] = [
     (&[], &[], &["", "a"]),
-    (&[(Kind::WholePath, "a")], &[], &["", "a"]),
+    (&[(Kind::Literal, "a")], &[], &["", "a"]),
     (
-        &[(Kind::WholePath, "a/b/c"), (Kind::WholePath, "d/e")],
+        &[(Kind::Literal, "a/b/c"), (Kind::Literal, "d/e")],
         &["a", "a/b", "d"],
         &["", "b", "a/b/c"],
     ),
     // Some of these stand before a `/`, and others after it, in the order of bytes.
     (
         &[
-            (Kind::WholePath, "a0/b"),
-            (Kind::WholePath, "a.b/c"),
+            (Kind::Literal, "a0/b"),
+            (Kind::Literal, "a.b/c"),
             (Kind::Prefix, "a/x/y"),
-            (Kind::WholePath, "a-b/c"),
-            (Kind::WholePath, "a/b"),
+            (Kind::Literal, "a-b/c"),
+            (Kind::Literal, "a/b"),
         ],
         &["a", "a-b", "a.b", "a0", "a/x", "a/x/y", "a/x/yz"],
         &["", "a-", "a.", "a/b", "a/", "a0/b", "a/x/z", "b"],
     ),
-    (&[(Kind::WholePath, "/a/b")], &["", "/a"], &["a", "/"]),
+    (&[(Kind::Literal, "/a/b")], &["", "/a"], &["a", "/"]),
     (
-        &[(Kind::WholePath, "a"), (Kind::Basename, "b")],
+        &[(Kind::Literal, "a"), (Kind::BasenameLiteral, "b")],
         &["", "c"],
         &[],
     ),
     (
-        &[(Kind::WholePath, "a"), (Kind::Extension, ".b")],
+        &[(Kind::Literal, "a"), (Kind::Extension, ".b")],
         &["", "c"],
         &[],
     ),
     (
         &[
             (Kind::Prefix, "a"),
-            (Kind::WholePath, "b/c"),
+            (Kind::Literal, "b/c"),
             (Kind::Prefix, "d/"),
         ],
         &["b", "d", "a"],

@@ -31,8 +31,8 @@ fn tokens(alloc: Global, glob: &str) -> Result<Vec<Token>, ReadError> {
 /// Returns the word for a key.
 fn word_of(key: &Key) -> &'static str {
     match key {
-        Key::WholePath(_) => "whole path",
-        Key::Basename(_) => "basename",
+        Key::Literal(_) => "whole path",
+        Key::BasenameLiteral(_) => "basename",
         Key::Extension(_) => "extension",
         Key::ComponentSuffix(_) => "component suffix",
         Key::Suffix(_) => "suffix",
@@ -46,8 +46,8 @@ fn parts_of(strategy: &MatchStrategy) -> (&'static str, &[u8]) {
         MatchStrategy::Excluded => ("excluded", b"".as_slice()),
         MatchStrategy::Key(key) => (word_of(key), key.bytes()),
         MatchStrategy::RequiredExtension(extension) => ("required", extension.as_slice()),
-        MatchStrategy::Basename => ("by last component", b"".as_slice()),
-        MatchStrategy::Path => ("by path", b"".as_slice()),
+        MatchStrategy::BasenameRegex => ("by last component", b"".as_slice()),
+        MatchStrategy::Regex => ("by path", b"".as_slice()),
     }
 }
 
