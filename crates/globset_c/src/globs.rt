@@ -122,27 +122,18 @@ pub extern "C" fn globset_raw_glob_regex(
     ensures statuses { IsOneOf (DONE ∷ OUT_OF_MEMORY ∷ WRONG_KIND ∷ TOO_SMALL ∷ []) result }
 {
     // The borrow checker has to be told the type that is lent.
-    let _object: Option<Object> = None;
-    match glob.read(alloc, |object, alloc| regex_of(alloc, object)) {
+    let _object: Option<&Object> = None;
+    let copied = glob.read(alloc, |object, alloc| match object {
+        Object::Glob(glob) => match String::from_str(alloc, glob.glob().regex()) {
+            Ok(regex) => Ok(regex),
+            Err(_) => Err(Failure::OutOfMemory),
+        },
+        _ => Err(Failure::WrongKind),
+    });
+    match copied {
         Ok(regex) => slices::write(regex.as_bytes(), room, needed),
         Err(Failure::OutOfMemory) => OUT_OF_MEMORY,
         Err(Failure::WrongKind) => WRONG_KIND,
-    }
-}
-
-fn regex_of(alloc: Global, object: &Object) -> Result<String, Failure>
-    ensures text { IfOk result
-        (λ s. IfGlob (Some object.now)
-        (λ g. string_bytes s ≡ regex_text g.options (tokens_of_glob g))) }
-    ensures wrong_kind { IfErr result (λ why. why ≡ WrongKind → ¬ (IsGlob (Some object.now))) }
-    ensures other_kind { ¬ (IsGlob (Some object.now)) → result ≡ Err WrongKind }
-{
-    let Object::Glob(glob) = object else {
-        return Err(Failure::WrongKind);
-    };
-    match String::from_str(alloc, glob.glob().regex()) {
-        Ok(regex) => Ok(regex),
-        Err(_) => Err(Failure::OutOfMemory),
     }
 }
 
@@ -171,25 +162,18 @@ pub extern "C" fn globset_raw_glob_text(
     ensures statuses { IsOneOf (DONE ∷ OUT_OF_MEMORY ∷ WRONG_KIND ∷ TOO_SMALL ∷ []) result }
 {
     // The borrow checker has to be told the type that is lent.
-    let _object: Option<Object> = None;
-    match glob.read(alloc, |object, alloc| text_of(alloc, object)) {
+    let _object: Option<&Object> = None;
+    let copied = glob.read(alloc, |object, alloc| match object {
+        Object::Glob(glob) => match String::from_str(alloc, glob.glob().glob()) {
+            Ok(copy) => Ok(copy),
+            Err(_) => Err(Failure::OutOfMemory),
+        },
+        _ => Err(Failure::WrongKind),
+    });
+    match copied {
         Ok(copy) => slices::write(copy.as_bytes(), room, needed),
         Err(Failure::OutOfMemory) => OUT_OF_MEMORY,
         Err(Failure::WrongKind) => WRONG_KIND,
-    }
-}
-
-fn text_of(alloc: Global, object: &Object) -> Result<String, Failure>
-    ensures text { IfOk result (λ s. IfGlob (Some object.now) (λ g. string_bytes s ≡ g.text)) }
-    ensures wrong_kind { IfErr result (λ why. why ≡ WrongKind → ¬ (IsGlob (Some object.now))) }
-    ensures other_kind { ¬ (IsGlob (Some object.now)) → result ≡ Err WrongKind }
-{
-    let Object::Glob(glob) = object else {
-        return Err(Failure::WrongKind);
-    };
-    match String::from_str(alloc, glob.glob().glob()) {
-        Ok(copy) => Ok(copy),
-        Err(_) => Err(Failure::OutOfMemory),
     }
 }
 
@@ -208,7 +192,7 @@ pub extern "C" fn globset_raw_glob_options(glob: &mut Lent, options: &mut u32) -
     ensures statuses { IsOneOf (DONE ∷ WRONG_KIND ∷ []) result }
 {
     // The borrow checker has to be told the type that is lent.
-    let _object: Option<Object> = None;
+    let _object: Option<&Object> = None;
     let bits = glob.read((), |object, ()| match object {
         Object::Glob(glob) => Some(glob.options()),
         _ => None,

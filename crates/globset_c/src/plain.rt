@@ -33,7 +33,7 @@ pub extern "C" fn globset_raw_matcher_is_match_plain(matcher: &mut Lent, path: &
     ensures statuses { IsOneOf (NO ∷ YES ∷ OUT_OF_MEMORY ∷ WRONG_KIND ∷ []) result }
 {
     // The borrow checker has to be told the type that is lent.
-    let _object: Option<Object> = None;
+    let _object: Option<&Object> = None;
     matcher.read(path, |object, path| match object {
         Object::Matcher(matcher) => match matcher.is_match_candidate(&Candidate::from_bytes(path)) {
             Ok(true) => YES,
@@ -60,7 +60,7 @@ pub extern "C" fn globset_raw_set_is_match_plain(set: &mut Lent, path: &[u8]) ->
     ensures statuses { IsOneOf (NO ∷ YES ∷ OUT_OF_MEMORY ∷ WRONG_KIND ∷ []) result }
 {
     // The borrow checker has to be told the type that is lent.
-    let _object: Option<Object> = None;
+    let _object: Option<&Object> = None;
     set.read(path, |object, path| match object {
         Object::Set(set) => is_match_in(set, path),
         _ => WRONG_KIND,
@@ -93,7 +93,7 @@ pub extern "C" fn globset_raw_set_matches_all_plain(set: &mut Lent, path: &[u8])
     ensures statuses { IsOneOf (NO ∷ YES ∷ OUT_OF_MEMORY ∷ WRONG_KIND ∷ []) result }
 {
     // The borrow checker has to be told the type that is lent.
-    let _object: Option<Object> = None;
+    let _object: Option<&Object> = None;
     set.read(path, |object, path| match object {
         Object::Set(set) => matches_all_in(set, path),
         _ => WRONG_KIND,
@@ -137,29 +137,17 @@ pub extern "C" fn globset_raw_set_matches_plain(
     ensures statuses { IsOneOf (DONE ∷ OUT_OF_MEMORY ∷ WRONG_KIND ∷ TOO_SMALL ∷ []) result }
 {
     // The borrow checker has to be told the type that is lent.
-    let _object: Option<Object> = None;
-    let found = set.read(
-        (alloc, path),
-        |object, (alloc, path)| matches_of(alloc, object, path),
-    );
+    let _object: Option<&Object> = None;
+    let found = set.read((alloc, path), |object, (alloc, path)| match object {
+        Object::Set(set) => match set.matches_candidate(alloc, &Candidate::from_bytes(path)) {
+            Ok(indexes) => Ok(indexes),
+            Err(_) => Err(Failure::OutOfMemory),
+        },
+        _ => Err(Failure::WrongKind),
+    });
     match found {
         Ok(found) => slices::write(&found, room, needed),
         Err(Failure::OutOfMemory) => OUT_OF_MEMORY,
         Err(Failure::WrongKind) => WRONG_KIND,
-    }
-}
-
-fn matches_of(alloc: Global, object: &Object, path: &[u8]) -> Result<Vec<usize>, Failure>
-    ensures found { IfOk result
-        (λ v. IfSet (Some object.now) (λ s. v.items ≡ matching_indexes (set_globs s) path.now)) }
-    ensures wrong_kind { IfErr result (λ why. why ≡ WrongKind → ¬ (IsSet (Some object.now))) }
-    ensures other_kind { ¬ (IsSet (Some object.now)) → result ≡ Err WrongKind }
-{
-    let Object::Set(set) = object else {
-        return Err(Failure::WrongKind);
-    };
-    match set.matches_candidate(alloc, &Candidate::from_bytes(path)) {
-        Ok(indexes) => Ok(indexes),
-        Err(_) => Err(Failure::OutOfMemory),
     }
 }

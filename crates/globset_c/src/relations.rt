@@ -227,7 +227,7 @@ fn copies_of(alloc: Global, globs: &mut [Lent]) -> Result<Vec<Glob>, AllocError>
     ensures copied { IfOk result (λ copies. copies.items ≡ lent_globs globs.old) }
 {
     // The borrow checker has to be told the type that is lent.
-    let _object: Option<Object> = None;
+    let _object: Option<&Object> = None;
     let mut copies = Vec::new(alloc);
     for i in 0..globs.len() {
         let Ok(copy) = globs[i].read((), |object, ()| copy_of(object)) else {

@@ -62,7 +62,7 @@ pub fn lends_glob(lent: &mut Lent) -> bool
     ensures answer { IsTrue result ↔ IsGlob (Some lent.old.object) }
 {
     // The borrow checker has to be told the type that is lent.
-    let _object: Option<Object> = None;
+    let _object: Option<&Object> = None;
     lent.read((), |object, ()| matches!(object, Object::Glob(_)))
 }
 
@@ -110,7 +110,7 @@ pub extern "C" fn globset_raw_set_len(set: &mut Lent, len: &mut usize) -> Status
     ensures statuses { IsOneOf (DONE ∷ WRONG_KIND ∷ []) result }
 {
     // The borrow checker has to be told the type that is lent.
-    let _object: Option<Object> = None;
+    let _object: Option<&Object> = None;
     let found = set.read((), |object, ()| match object {
         Object::Set(set) => Some(set.len()),
         _ => None,
