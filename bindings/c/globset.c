@@ -209,8 +209,7 @@ void globset_glob_free(globset_glob *glob) {
 
 /* ---- Matchers ---- */
 
-/* To globset.h, what matches as one glob is a searcher of a matcher. The matcher is freed, since the searcher has all
- * that it needs. */
+/* A `globset_matcher` is a searcher of a matcher. The matcher is freed, since the searcher has all that it needs. */
 int globset_matcher_new(const globset_glob *glob, globset_matcher **matcher) {
     globset_lent lent = lend(glob);
     globset_owned raw = own(NULL), made = own(NULL);

@@ -310,7 +310,7 @@ impl Matcher {
 
     #[inline]
     pub(crate) fn is_match(&self, path: &[u8]) -> bool {
-        // SAFETY: "Whether the matcher's glob matches the path, without a work".
+        // SAFETY: "Whether the matcher's glob matches the path".
         answer(unsafe { globset_raw_matcher_is_match_plain(&mut self.0.lend(), path.as_ptr(), path.len()) })
     }
 }
@@ -408,8 +408,8 @@ impl Set {
     }
 }
 
-/// A searcher of the library: "a set with all the memory that one thread matches with. It shares what the set matches with, and
-/// so may be used after the set was freed."
+/// A searcher of the library: a set "with all the memory that one thread matches with. It shares what these match with, and so
+/// may be used after they were freed."
 pub(crate) struct Searcher(Owned);
 
 // SAFETY: "It may go to another thread, which then uses and frees it, if what the first thread did with it comes before, by a

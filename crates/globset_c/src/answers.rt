@@ -50,7 +50,7 @@ pub extern "C" fn globset_raw_answers_at<'a>(
     path: &mut Bytes<'a>,
     indexes: &mut Indexes<'a>,
 ) -> Status
-    // The status says what the answer of the index tells.
+    // The handle owns an object. The status says what the answer of the index tells.
     requires owned { IsSome answers.old.object }
     ensures yes { result ≡ YES → IfAnswers answers.old.object (λ all.
         slice_get (told all) index ≡ Some (a_path path.new.items.now)) }
@@ -103,7 +103,7 @@ pub extern "C" fn globset_raw_answers_lines<'a>(
     answers: &'a mut Owned,
     lines: &mut Indexes<'a>,
 ) -> Status
-    // The call lends numbers only with DONE.
+    // The handle owns an object. The call lends numbers only with DONE.
     requires owned { IsSome answers.old.object }
     ensures lines { result ≡ DONE
         → IfAnswers answers.old.object (λ all. lines.new.items.now ≡ lines_told all) }

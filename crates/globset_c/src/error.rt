@@ -65,7 +65,7 @@ pub extern "C" fn globset_raw_error_text(
     ensures refused { result ≢ DONE → room.new ≡ room.old }
     ensures same_needed { result ≢ DONE → result ≢ TOO_SMALL → needed.new ≡ needed.old }
 
-    // The error is looked at first, and then the bytes.
+    // The error is looked at first, and then the bytes. Only these statuses come.
     ensures no_error { result ≡ NO → (k : ErrorKind) → ¬ (IsTold error.now k) }
     ensures an_error { result ≢ NO → (k : ErrorKind) × IsTold error.now k }
     ensures not_utf8 { result ≡ NOT_UTF8 → ¬ (IsUtf8 text.now) }

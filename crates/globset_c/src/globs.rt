@@ -75,7 +75,7 @@ pub extern "C" fn globset_raw_glob_new(
     ensures refused { result ≢ DONE → out.new ≡ out.old }
     ensures same_error { result ≢ REJECTED → error.new ≡ error.old }
 
-    // The options are looked at first, and then the bytes.
+    // The options are looked at first, and then the bytes. Only these statuses come.
     ensures unknown { result ≡ UNKNOWN_OPTION → ¬ (IsKnown options) }
     ensures known { result ≢ UNKNOWN_OPTION → IsKnown options }
     ensures not_utf8 { result ≡ NOT_UTF8 → ¬ (IsUtf8 text.now) }
@@ -121,7 +121,7 @@ pub extern "C" fn globset_raw_glob_regex(
     ensures other_kind { ¬ (IsGlob (Some glob.old.object)) → result ≡ WRONG_KIND }
     ensures statuses { IsOneOf (DONE ∷ OUT_OF_MEMORY ∷ WRONG_KIND ∷ TOO_SMALL ∷ []) result }
 {
-    // The borrow checker has to be told the type that is lent.
+    // The borrow checker has to be told the type that is lent, which nothing else here names.
     let _object: Option<&Object> = None;
     let copied = glob.read(alloc, |object, alloc| match object {
         Object::Glob(glob) => match String::from_str(alloc, glob.glob().regex()) {
@@ -161,7 +161,7 @@ pub extern "C" fn globset_raw_glob_text(
     ensures other_kind { ¬ (IsGlob (Some glob.old.object)) → result ≡ WRONG_KIND }
     ensures statuses { IsOneOf (DONE ∷ OUT_OF_MEMORY ∷ WRONG_KIND ∷ TOO_SMALL ∷ []) result }
 {
-    // The borrow checker has to be told the type that is lent.
+    // The borrow checker has to be told the type that is lent, which nothing else here names.
     let _object: Option<&Object> = None;
     let copied = glob.read(alloc, |object, alloc| match object {
         Object::Glob(glob) => match String::from_str(alloc, glob.glob().glob()) {
@@ -191,7 +191,7 @@ pub extern "C" fn globset_raw_glob_options(glob: &mut Lent, options: &mut u32) -
     ensures right_kind { IsGlob (Some glob.old.object) → result ≡ DONE }
     ensures statuses { IsOneOf (DONE ∷ WRONG_KIND ∷ []) result }
 {
-    // The borrow checker has to be told the type that is lent.
+    // The borrow checker has to be told the type that is lent, which nothing else here names.
     let _object: Option<&Object> = None;
     let bits = glob.read((), |object, ()| match object {
         Object::Glob(glob) => Some(glob.options()),

@@ -19,7 +19,7 @@ pub extern "C" fn globset_raw_ignore_unread_lines<'a>(
     file: usize,
     lines: &mut Indexes<'a>,
 ) -> Status
-    // The call lends numbers only with DONE.
+    // The handle owns an object. The call lends numbers only with DONE.
     requires owned { IsSome ignore.old.object }
     ensures lines { result ≡ DONE → IfIgnore ignore.old.object
         (λ s. option_map unread_lines_of (file_at s file) ≡ Some lines.new.items.now) }
@@ -53,7 +53,7 @@ pub extern "C" fn globset_raw_ignore_line_text<'a>(
     line: usize,
     text: &mut Bytes<'a>,
 ) -> Status
-    // The call lends a text only with DONE.
+    // The handle owns an object. The call lends a text only with DONE.
     requires owned { IsSome ignore.old.object }
     ensures text { result ≡ DONE → IfIgnore ignore.old.object
         (λ s. option_and_then (λ bytes. line_text_at bytes line) (file_at s file)

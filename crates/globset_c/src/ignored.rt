@@ -20,7 +20,7 @@ pub extern "C" fn globset_raw_ignore_decide(
     file: &mut usize,
     line: &mut usize,
 ) -> Status
-    // The answer is true, and the object stays as it was.
+    // The handle owns an object, which stays as it was. The answer is right.
     requires owned { IsSome ignore.old.object }
     ensures same { ignore.new.object ≡ ignore.old.object }
     ensures yes { result ≡ YES → IfIgnore ignore.old.object

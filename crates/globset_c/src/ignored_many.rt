@@ -78,7 +78,7 @@ pub extern "C" fn globset_raw_ignore_decide_many(
     by: u32,
     answers: &mut [u8],
 ) -> Status
-    // Only `answers` changes, and only with DONE.
+    // The handle owns an object. Only `answers` changes, and only with DONE.
     requires owned { IsSome ignore.old.object }
     ensures same { ignore.new.object ≡ ignore.old.object }
     ensures answered { result ≡ DONE → IfIgnore ignore.old.object (λ s.
@@ -114,7 +114,7 @@ pub extern "C" fn globset_raw_ignore_rules_many(
     by: u32,
     rules: &mut [ToldRule],
 ) -> Status
-    // Only `rules` changes, and only with DONE.
+    // The handle owns an object. Only `rules` changes, and only with DONE.
     requires owned { IsSome ignore.old.object }
     ensures same { ignore.new.object ≡ ignore.old.object }
     ensures told { result ≡ DONE → IfIgnore ignore.old.object (λ s.

@@ -70,7 +70,7 @@ pub extern "C" fn globset_raw_matcher_searcher_new(
 /// Returns whether the glob of a searcher's matcher matches a path.
 #[unsafe(no_mangle)]
 pub extern "C" fn globset_raw_matcher_searcher_is_match(searcher: &mut Owned, path: &[u8]) -> Status
-    // The answer is true, and the object stays as it was.
+    // The handle owns an object, which stays as it was. The answer is right.
     requires owned { IsSome searcher.old.object }
     ensures same_searcher { searcher.new.object ≡ searcher.old.object }
     ensures yes { result ≡ YES

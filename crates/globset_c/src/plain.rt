@@ -20,7 +20,7 @@ use std::alloc::Global;
 /// Returns whether the glob of a matcher matches a path.
 #[unsafe(no_mangle)]
 pub extern "C" fn globset_raw_matcher_is_match_plain(matcher: &mut Lent, path: &[u8]) -> Status
-    // The answer is true, and the object stays as it was.
+    // The answer is right, and the object stays as it was.
     ensures same_matcher { matcher.new ≡ matcher.old }
     ensures yes { result ≡ YES
         → IfMatcher (Some matcher.old.object) (λ m. glob_matches m path.now ≡ true) }
@@ -32,7 +32,7 @@ pub extern "C" fn globset_raw_matcher_is_match_plain(matcher: &mut Lent, path: &
     ensures other_kind { ¬ (IsMatcher (Some matcher.old.object)) → result ≡ WRONG_KIND }
     ensures statuses { IsOneOf (NO ∷ YES ∷ OUT_OF_MEMORY ∷ WRONG_KIND ∷ []) result }
 {
-    // The borrow checker has to be told the type that is lent.
+    // The borrow checker has to be told the type that is lent, which nothing else here names.
     let _object: Option<&Object> = None;
     matcher.read(path, |object, path| match object {
         Object::Matcher(matcher) => match matcher.is_match_candidate(&Candidate::from_bytes(path)) {
@@ -47,7 +47,7 @@ pub extern "C" fn globset_raw_matcher_is_match_plain(matcher: &mut Lent, path: &
 /// Returns whether some glob of a set matches a path.
 #[unsafe(no_mangle)]
 pub extern "C" fn globset_raw_set_is_match_plain(set: &mut Lent, path: &[u8]) -> Status
-    // The answer is true, and the object stays as it was.
+    // The answer is right, and the object stays as it was.
     ensures same_set { set.new ≡ set.old }
     ensures yes { result ≡ YES
         → IfSet (Some set.old.object) (λ s. matching_indexes (set_globs s) path.now ≢ []) }
@@ -59,7 +59,7 @@ pub extern "C" fn globset_raw_set_is_match_plain(set: &mut Lent, path: &[u8]) ->
     ensures other_kind { ¬ (IsSet (Some set.old.object)) → result ≡ WRONG_KIND }
     ensures statuses { IsOneOf (NO ∷ YES ∷ OUT_OF_MEMORY ∷ WRONG_KIND ∷ []) result }
 {
-    // The borrow checker has to be told the type that is lent.
+    // The borrow checker has to be told the type that is lent, which nothing else here names.
     let _object: Option<&Object> = None;
     set.read(path, |object, path| match object {
         Object::Set(set) => is_match_in(set, path),
@@ -82,7 +82,7 @@ fn is_match_in(set: &GlobSet, path: &[u8]) -> Status
 /// Returns whether every glob of a set matches a path.
 #[unsafe(no_mangle)]
 pub extern "C" fn globset_raw_set_matches_all_plain(set: &mut Lent, path: &[u8]) -> Status
-    // The answer is true, and the object stays as it was.
+    // The answer is right, and the object stays as it was.
     ensures same_set { set.new ≡ set.old }
     ensures yes { result ≡ YES → IfSet (Some set.old.object) (λ s. IsAll s path.now) }
     ensures no { result ≡ NO → IfSet (Some set.old.object) (λ s. ¬ (IsAll s path.now)) }
@@ -92,7 +92,7 @@ pub extern "C" fn globset_raw_set_matches_all_plain(set: &mut Lent, path: &[u8])
     ensures other_kind { ¬ (IsSet (Some set.old.object)) → result ≡ WRONG_KIND }
     ensures statuses { IsOneOf (NO ∷ YES ∷ OUT_OF_MEMORY ∷ WRONG_KIND ∷ []) result }
 {
-    // The borrow checker has to be told the type that is lent.
+    // The borrow checker has to be told the type that is lent, which nothing else here names.
     let _object: Option<&Object> = None;
     set.read(path, |object, path| match object {
         Object::Set(set) => matches_all_in(set, path),
@@ -136,7 +136,7 @@ pub extern "C" fn globset_raw_set_matches_plain(
     ensures other_kind { ¬ (IsSet (Some set.old.object)) → result ≡ WRONG_KIND }
     ensures statuses { IsOneOf (DONE ∷ OUT_OF_MEMORY ∷ WRONG_KIND ∷ TOO_SMALL ∷ []) result }
 {
-    // The borrow checker has to be told the type that is lent.
+    // The borrow checker has to be told the type that is lent, which nothing else here names.
     let _object: Option<&Object> = None;
     let found = set.read((alloc, path), |object, (alloc, path)| match object {
         Object::Set(set) => match set.matches_candidate(alloc, &Candidate::from_bytes(path)) {

@@ -226,7 +226,7 @@ fn copies_of(alloc: Global, globs: &mut [Lent]) -> Result<Vec<Glob>, AllocError>
     ensures same { globs.new ≡ globs.old }
     ensures copied { IfOk result (λ copies. copies.items ≡ lent_globs globs.old) }
 {
-    // The borrow checker has to be told the type that is lent.
+    // The borrow checker has to be told the type that is lent, which nothing else here names.
     let _object: Option<&Object> = None;
     let mut copies = Vec::new(alloc);
     for i in 0..globs.len() {

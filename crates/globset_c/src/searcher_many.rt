@@ -24,7 +24,7 @@ pub extern "C" fn globset_raw_searcher_is_match_many(
     ends: &[usize],
     answers: &mut [u8],
 ) -> Status
-    // Only `answers` changes, and only with DONE.
+    // The handle owns an object. Only `answers` changes, and only with DONE.
     requires owned { IsSome searcher.old.object }
     ensures same_searcher { searcher.new.object ≡ searcher.old.object }
     ensures answered { result ≡ DONE → IfSearcher searcher.old.object (λ s.

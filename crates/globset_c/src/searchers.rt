@@ -49,7 +49,7 @@ pub extern "C" fn globset_raw_searcher_new(alloc: Global, set: &mut Lent, out: &
 #[unsafe(no_mangle)]
 #[tactic(auto, using(crate::proofs::Nil::nil_where_none))]
 pub extern "C" fn globset_raw_searcher_is_match(searcher: &mut Owned, path: &[u8]) -> Status
-    // The answer is true, and the object stays as it was.
+    // The handle owns an object, which stays as it was. The answer is right.
     requires owned { IsSome searcher.old.object }
     ensures same_searcher { searcher.new.object ≡ searcher.old.object }
     ensures yes { result ≡ YES
@@ -76,7 +76,7 @@ pub extern "C" fn globset_raw_searcher_is_match(searcher: &mut Owned, path: &[u8
 /// Returns whether every glob of a searcher's set matches a path.
 #[unsafe(no_mangle)]
 pub extern "C" fn globset_raw_searcher_matches_all(searcher: &mut Owned, path: &[u8]) -> Status
-    // The answer is true, and the object stays as it was.
+    // The handle owns an object, which stays as it was. The answer is right.
     requires owned { IsSome searcher.old.object }
     ensures same_searcher { searcher.new.object ≡ searcher.old.object }
     ensures yes { result ≡ YES → IfSearcher searcher.old.object (λ s. IsAll s.set path.now) }
@@ -172,7 +172,7 @@ pub extern "C" fn globset_raw_searcher_can_match_below(
     searcher: &mut Owned,
     folder: &[u8],
 ) -> Status
-    // The answer is true, and the object stays as it was.
+    // The handle owns an object, which stays as it was. The answer is right.
     requires owned { IsSome searcher.old.object }
     ensures same_searcher { searcher.new.object ≡ searcher.old.object }
     ensures yes { result ≡ YES

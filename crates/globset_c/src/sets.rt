@@ -61,7 +61,7 @@ pub fn lends_glob(lent: &mut Lent) -> bool
     ensures same { lent.new ≡ lent.old }
     ensures answer { IsTrue result ↔ IsGlob (Some lent.old.object) }
 {
-    // The borrow checker has to be told the type that is lent.
+    // The borrow checker has to be told the type that is lent, which nothing else here names.
     let _object: Option<&Object> = None;
     lent.read((), |object, ()| matches!(object, Object::Glob(_)))
 }
@@ -109,7 +109,7 @@ pub extern "C" fn globset_raw_set_len(set: &mut Lent, len: &mut usize) -> Status
     ensures right_kind { IsSet (Some set.old.object) → result ≡ DONE }
     ensures statuses { IsOneOf (DONE ∷ WRONG_KIND ∷ []) result }
 {
-    // The borrow checker has to be told the type that is lent.
+    // The borrow checker has to be told the type that is lent, which nothing else here names.
     let _object: Option<&Object> = None;
     let found = set.read((), |object, ()| match object {
         Object::Set(set) => Some(set.len()),

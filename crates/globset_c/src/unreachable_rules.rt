@@ -26,7 +26,7 @@ pub extern "C" fn globset_raw_ignore_unreachable(
     limit: usize,
     out: &mut Owned,
 ) -> Status
-    // Only `out` changes, and only with DONE.
+    // The handle owns an object. Only `out` changes, and only with DONE.
     requires owned { IsSome ignore.old.object }
     ensures same { ignore.new.object ≡ ignore.old.object }
     ensures told { result ≡ DONE
