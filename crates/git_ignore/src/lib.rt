@@ -77,8 +77,6 @@ mod scratch;
 mod searcher;
 mod stack;
 mod stored;
-#[cfg(test)]
-mod tests;
 mod two_rules;
 
 pub use builder::RulesBuilder;

@@ -7,9 +7,6 @@ ghost use Rattle.std.specs.Prelude.{◌≡◌, IfSome};
 use counted_slot::{Counted, FREE, Fits, PRESENT, TAKEN};
 use std::marker::Model;
 
-#[cfg(test)]
-mod tests;
-
 /// Bytes between two slots, so that no two of them share a line of the processor's cache.
 type Apart = [u64; 14];
 

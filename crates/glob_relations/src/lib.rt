@@ -34,8 +34,3 @@ pub use domain::Domain;
 pub use relations::{Coverage, Intersection, covering, covering_pattern, overlap};
 pub use rules::{RuleReachability, unreachable_rules};
 pub use unused::{Decides, Reachability, unreachable};
-
-#[cfg(test)]
-mod pattern_tests;
-#[cfg(test)]
-mod tests;
