@@ -98,7 +98,7 @@ fn answer(searcher: &mut Searcher, path: &[u8]) -> u8
 
 /// The indexes of many paths, and the ends of each path's indexes.
 #[derive(Drop)]
-struct Found {
+struct IndexLists {
     indexes: Vec<usize>,
     ends: Vec<usize>,
 }
@@ -174,7 +174,7 @@ fn find_each(
     searcher: &mut Searcher,
     paths: &[u8],
     ends: &[usize],
-) -> Result<Found, AllocError>
+) -> Result<IndexLists, AllocError>
     requires { AreEnds (length paths.now) 0 ends.now }
     ensures indexes { IfOk result
         (λ f. f.indexes.items ≡ indexes_for (set_globs searcher.old.set) paths.now 0 ends.now) }
@@ -187,7 +187,7 @@ fn find_each(
     ensures found { searcher.new.found
         ≡ last_indexes_for (set_globs searcher.old.set) searcher.old.found paths.now 0 ends.now }
 {
-    let mut found = Found {
+    let mut found = IndexLists {
         indexes: Vec::new(alloc),
         ends: Vec::new(alloc),
     };
@@ -207,7 +207,7 @@ fn find_each(
 }
 
 /// Adds the indexes of a path to the others, and their end.
-fn keep(of_path: &[usize], found: &mut Found) -> Result<(), AllocError>
+fn keep(of_path: &[usize], found: &mut IndexLists) -> Result<(), AllocError>
     ensures indexes { OnOk result
         (found.new.indexes.items ≡ found.old.indexes.items ++ of_path.now) }
     ensures ends { OnOk result
@@ -241,7 +241,7 @@ fn find_last(searcher: &mut Searcher, paths: &[u8], start: usize, ends: &[usize]
 
 /// Writes the indexes into the room, if it is not too small, and then the ends of each path's indexes.
 fn hand_over(
-    found: &Found,
+    found: &IndexLists,
     index_ends: &mut [usize],
     room: &mut [usize],
     needed: &mut usize,
