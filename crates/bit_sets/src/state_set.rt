@@ -3,7 +3,9 @@
 ghost use Rattle.bit_sets.specs.inner.Bounds.{AreBounds};
 
 use crate::visits::Visits;
-use crate::words::{Seen, clear_between, grow, has_bit, last_below, set_bit, words_for};
+use crate::words::{
+    Seen, clear_between, grow, has_bit, last_below, last_in_word, set_bit, words_for,
+};
 use std::alloc::{AllocError, Global};
 
 /// A set of states, as a bit for each.
@@ -23,7 +25,8 @@ pub struct StateSet {
 }
 
 impl StateSet {
-    ghost use Rattle.std.specs.Prelude.{◌≡◌, ℕ, ◌+◌, ◌<◌, ◌≤◌, ◌||◌, ◌==◌, false, IfOk, OnOk, IsOk, IsTrue};
+    ghost use Rattle.std.specs.Prelude.{◌≡◌, ℕ, ◌+◌, ◌<◌, ◌≤◌, ◌||◌, ◌==◌, false, MatchOption, IfOk, OnOk, IsOk, IsTrue};
+    ghost use Rattle.bit_sets.specs.Bits.{TellsLastBelow};
     ghost use Rattle.bit_sets.specs.StateSets.{has_state, state_capacity, IsHighestBelow};
     ghost use Rattle.bit_sets.specs.Numbers.{AreBelow, has_number};
 
@@ -113,6 +116,33 @@ impl StateSet {
     {
         visits.tick();
         has_bit(&self.words, state)
+    }
+
+    /// Returns the highest state of the set that is below a bound, or `None` if there is none.
+    ///
+    /// It reads the words of the states between the result, or 0, and the bound. Each read is a visit.
+    pub fn last_below(&self, limit: usize, visits: &mut Visits) -> Option<usize>
+        requires { limit ≤ state_capacity self.now }
+        ensures found { TellsLastBelow (has_state self.now) limit result }
+        ensures visits { MatchOption result (visits.new ≤ visits.old + limit)
+            (λ s. visits.new + s ≤ visits.old + limit) }
+        ensures counted { MatchOption result (visits.old ≤ visits.new)
+            (λ _. visits.old < visits.new) }
+    {
+        let mut end = if self.last < limit {
+            self.last + 1
+        } else {
+            limit
+        };
+        while self.first < end {
+            visits.tick();
+            let last = end - 1;
+            if let Some(state) = last_in_word(&self.words, last) {
+                return Some(state);
+            }
+            end = last / 64 * 64;
+        }
+        None
     }
 
     /// Reads the next state below a bound. This is the highest state below it in the set. If the word before the bound has no

@@ -2,7 +2,7 @@
 
 ghost use Rattle.std.specs.Prelude.{◌≡◌, ℕ, ◌+◌, ◌-◌, ◌*◌, ◌/◌, ◌%◌, ◌^◌, ◌<◌, ◌≤◌, ◌&&◌, ◌||◌, ◌==◌, max, not, true, false, length, OnOk, IsOk};
 ghost use Rattle.std.specs.Int.{bit_at};
-ghost use Rattle.bit_sets.specs.Bits.{bit_of, TellsFirst, TellsFirstInWord};
+ghost use Rattle.bit_sets.specs.Bits.{bit_of, TellsFirst, TellsFirstInWord, TellsLastInWord};
 ghost use Rattle.bit_sets.specs.Seen.{IsLastBelow};
 
 use std::alloc::AllocError;
@@ -130,6 +130,19 @@ pub fn last_below(words: &[u64], limit: usize) -> Seen
             is_set: true,
         }
     }
+}
+
+/// Returns the highest bit that is set in a bit's word, up to this bit.
+pub fn last_in_word(words: &[u64], to: usize) -> Option<usize>
+    requires { to < 64 * length words.now }
+    ensures { TellsLastInWord (bit_of words.now) to result }
+{
+    let at = to / 64;
+    let word = words[at] & (u64::MAX >> (63 - to % 64));
+    if word == 0 {
+        return None;
+    }
+    Some(at * 64 + (63 - word.leading_zeros() as usize))
 }
 
 /// Returns the lowest bit that is set in a bit's word, from this bit on.

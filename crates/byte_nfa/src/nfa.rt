@@ -126,13 +126,9 @@ impl Nfa {
             ↔ (AcceptsFrom self.now from.old [] k ⊎ IsTrue (has_index into.old k)) }
     {
         let mut limit = self.state_count();
-        while limit > 0 {
-            let seen = from.read_below(limit, &mut Visits::new());
-            let s = seen.at;
-            if seen.is_set {
-                if let Some(index) = self.follow_epsilons(s, from) {
-                    into.put(index);
-                }
+        while let Some(s) = from.last_below(limit, &mut Visits::new()) {
+            if let Some(index) = self.follow_epsilons(s, from) {
+                into.put(index);
             }
             limit = s;
         }
@@ -312,10 +308,8 @@ impl Nfa {
         ensures counted { visits.old ≤ visits.new }
     {
         let mut limit = self.state_count();
-        while limit > 0 {
-            let seen = from.read_below(limit, visits);
-            let s = seen.at;
-            if seen.is_set && is_in(live, s) {
+        while let Some(s) = from.last_below(limit, visits) {
+            if is_in(live, s) {
                 return true;
             }
             limit = s;

@@ -131,32 +131,31 @@ module _ (word r : ℕ) (low : r < 64) where
   cut_bit i lt = rw mask_is (bit_at_and word (2 ^ (r + 1) - 1) i ∙ (let none = bit_at_ones_above (r + 1) i (omega arith) in omega arith))
 
 -- nothing is set in the mask
-pub none_below : (words : List ℕ) (limit word : ℕ) → 0 < limit → word ≡ get_or words ((limit - 1) / 64) 0
-    → bit_and word (18446744073709551615 / 2 ^ (63 - (limit - 1) % 64)) ≡ 0
-    → (k : ℕ) → (limit - 1) / 64 * 64 ≤ k → k < limit → bit_of words k ≡ false
+pub none_up_to : (words : List ℕ) (to word : ℕ) → word ≡ get_or words (to / 64) 0
+    → bit_and word (18446744073709551615 / 2 ^ (63 - to % 64)) ≡ 0
+    → (k : ℕ) → k ≤ to → k / 64 ≡ to / 64 → bit_of words k ≡ false
 unfolding masked
-none_below words limit word some read nil k low high =
-    let r : ℕ = (limit - 1) % 64 in
-    let at : ℕ = (limit - 1) / 64 in
-    let row : k / 64 ≡ at = omega arith in
+none_up_to words to word read nil k high row =
+    let r : ℕ = to % 64 in
+    let at : ℕ = to / 64 in
     let small : r < 64 = omega arith in
     let le : k % 64 ≤ r = omega arith in
     bit_in words k at (k % 64) row refl
     ∙ ap (λ x. eqb (bit_at x (k % 64)) 1) (sym read)
     ∙ zero_bit (bit_at word (k % 64)) (sym (kept_bit word r small (k % 64) le) ∙ ap (λ x. bit_at x (k % 64)) nil ∙ bit_at-zero (k % 64))
 
--- the highest bit that is set below the bound
+-- the highest bit that is set up to a bit
 abbrev pub IsTop : List ℕ → ℕ → ℕ → Type 0
-IsTop words limit at = (at < limit) × (bit_of words at ≡ true) × ((k : ℕ) → at < k → k < limit → bit_of words k ≡ false)
+IsTop words to at = (at ≤ to) × (bit_of words at ≡ true) × ((k : ℕ) → at < k → k ≤ to → bit_of words k ≡ false)
 
 -- the highest bit of the mask
-pub top_below : (words : List ℕ) (limit word : ℕ) → 0 < limit → word ≡ get_or words ((limit - 1) / 64) 0 → word < 2 ^ 64
-    → 0 < bit_and word (18446744073709551615 / 2 ^ (63 - (limit - 1) % 64))
-    → IsTop words limit ((limit - 1) / 64 * 64 + (63 - leading_zeros w64 (bit_and word (18446744073709551615 / 2 ^ (63 - (limit - 1) % 64)))))
+pub top_up_to : (words : List ℕ) (to word : ℕ) → word ≡ get_or words (to / 64) 0 → word < 2 ^ 64
+    → 0 < bit_and word (18446744073709551615 / 2 ^ (63 - to % 64))
+    → IsTop words to (to / 64 * 64 + (63 - leading_zeros w64 (bit_and word (18446744073709551615 / 2 ^ (63 - to % 64)))))
 unfolding masked
-top_below words limit word some read fits more =
-    let r : ℕ = (limit - 1) % 64 in
-    let at : ℕ = (limit - 1) / 64 in
+top_up_to words to word read fits more =
+    let r : ℕ = to % 64 in
+    let at : ℕ = to / 64 in
     let small : r < 64 = omega arith in
     let m : ℕ = masked word r small in
     let within : m < 2 ^ 64 = omega (arith, and_le_l word (18446744073709551615 / 2 ^ (63 - r))) in
@@ -167,7 +166,7 @@ top_below words limit word some read fits more =
       | inr le ↦ le
     ] in
     let same : at * 64 + j ≡ at * 64 + (63 - leading_zeros w64 m) = omega arith in
-    subst (IsTop words limit) same (
+    subst (IsTop words to) same (
       omega arith,
       bit_in words (at * 64 + j) at j (omega arith) (omega arith) ∙ ap (λ x. eqb (bit_at x j) 1) (sym read) ∙ one_bit (bit_at word j) (sym (kept_bit word r small j le) ∙ top),
       λ k low high.

@@ -206,6 +206,19 @@ module _ (a : List State) where
       iff_trans (all_passed a s limit k y now next found below between)
       (taken a s k y now next found now' next' found' marked (goes_below_later s (state a s) order) is_now is_next is_found)
 
+  -- no state that is left is in the set
+  pub rest_passed : (limit k : ℕ) (y : List ℕ) (now next found : ℕ → Bool) → ((t : ℕ) → t < limit → now t ≡ false)
+      → PassInvariant a now limit next found y k ↔ PassInvariant a now 0 next found y k
+  rest_passed limit k y now next found none = (there, back)
+    where
+      there : PassInvariant a now limit next found y k → PassInvariant a now 0 next found y k
+      there (inl (t, lt, at, h)) = absurd (true≢false (sym at ∙ none t lt))
+      there (inr h) = inr h
+
+      back : PassInvariant a now 0 next found y k → PassInvariant a now limit next found y k
+      back (inl (t, lt, at, h)) = absurd (omega arith)
+      back (inr h) = inr h
+
   -- after the pass, inside the text
   pub next_position : (now next found : ℕ → Bool) (c : ℕ) (z : List ℕ) (k : ℕ) → PassInvariant a now 0 next found (c ∷ z) k ↔ AcceptsNow a next (length a) z k
   next_position now next found c z k = (λ h. there ((all_swept now next found (c ∷ z) k).0 h), λ (t, lt, at, h). inr (inl (c, z, t, refl, lt, at, h)))

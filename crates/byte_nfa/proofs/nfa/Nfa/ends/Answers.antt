@@ -1,60 +1,42 @@
-use Rattle.std.proofs.Common.{◌≡◌, [], false, arith, sym, ◌∙◌, refl}
+use Rattle.std.proofs.Common.{[], false, arith, ◌∙◌, refl}
 use Rattle.bit_sets.specs.Indexes.{has_index}
 use Rattle.bit_sets.specs.StateSets.{has_state}
 use Rattle.byte_nfa.specs.Steps.{state}
 use Rattle.byte_nfa.specs.Runs.{size}
-use Rattle.byte_nfa.proofs.lemmas.Pass.{iff_trans, some_found, read_passed, read_taken, stays_at_end, names_it, names_none, last_position}
+use Rattle.byte_nfa.proofs.lemmas.Pass.{iff_trans, some_found, read_taken, rest_passed, stays_at_end, names_it, names_none, last_position}
 use Rattle.byte_nfa.proofs.nfa.Nfa.ends.Goals as goal
+use Rattle.byte_nfa.proofs.nfa.Nfa.ends.Goals.{in-Some-follow_epsilons, in_default-follow_epsilons}
 
-pub loop-limit-preserved-in-Some : goal.loop-limit-preserved-in-Some
-loop-limit-preserved-in-Some c =
-    let inv = c.loop-limit.invariant in
-    let last = c.read_below-seen.ensures.seen in
-    let s = c.read_below-seen.result.at in
+pub loop-s-preserved : goal.loop-s-preserved
+loop-s-preserved c =
+    let inv = c.loop-s.invariant in
+    let (below, at, between) = c.in-Some.ensures.found in
+    let s = c.in-Some.s in
     let st = state c.args.self.now.states s in
-    let left = c.in-Some.ensures in
-    record {
-      within = omega (arith, last.below, inv.within);
-      from_capacity = left.room ∙ inv.from_capacity;
-      into_capacity = c.put.ensures.room ∙ inv.into_capacity;
-      holds = λ k. iff_trans (inv.holds k) (read_taken c.args.self.now.states s c.loop-limit.limit k [] (has_state c.loop-limit.from) (λ _. false) (has_index c.loop-limit.into)
-          (has_state c.follow_epsilons.new.from) (λ _. false) (has_index c.put.new.self)
-          last.below last.between (sym last.marked ∙ c.if-seen.true) left.below left.from (λ t. stays_at_end st s t)
-          (λ t. c.put.ensures.has t ∙ names_it st c.in-Some.index t (has_index c.loop-limit.into t) left.end.0));
-    }
+    let left = c.follow_epsilons.ensures in
+    let old = has_index c.loop-s.into in
+    let next = c.match-follow_epsilons in
+    elim next.branch [
+      | in-Some-follow_epsilons w ↦ rw (w.limit-is, w.into-is) record {
+        within = omega (arith, below, inv.within);
+        from_capacity = left.room ∙ inv.from_capacity;
+        into_capacity = w.put.ensures.room ∙ inv.into_capacity;
+        holds = λ k. iff_trans (inv.holds k) (read_taken c.args.self.now.states s c.loop-s.limit k [] (has_state c.loop-s.from) (λ _. false) old (has_state c.follow_epsilons.new.from) (λ _. false) (has_index w.put.new.self)
+            below between at left.below left.from (λ t. stays_at_end st s t)
+            (λ t. w.put.ensures.has t ∙ names_it st w.in-Some-follow_epsilons.index t (old t) w.in-Some-follow_epsilons.ensures.end.0));
+      }
+      | in_default-follow_epsilons w ↦ rw (w.limit-is, w.into-is) record {
+        within = omega (arith, below, inv.within);
+        from_capacity = left.room ∙ inv.from_capacity;
+        into_capacity = inv.into_capacity;
+        holds = λ k. iff_trans (inv.holds k) (read_taken c.args.self.now.states s c.loop-s.limit k [] (has_state c.loop-s.from) (λ _. false) old (has_state c.follow_epsilons.new.from) (λ _. false) old
+            below between at left.below left.from (λ t. stays_at_end st s t)
+            (λ t. names_none st t (old t) (w.in_default-follow_epsilons.ensures.end t)));
+      }
+    ]
 
-pub loop-limit-preserved-in_default : goal.loop-limit-preserved-in_default
-loop-limit-preserved-in_default c =
-    let inv = c.loop-limit.invariant in
-    let last = c.read_below-seen.ensures.seen in
-    let s = c.read_below-seen.result.at in
-    let st = state c.args.self.now.states s in
-    let left = c.in_default.ensures in
-    record {
-      within = omega (arith, last.below, inv.within);
-      from_capacity = left.room ∙ inv.from_capacity;
-      into_capacity = inv.into_capacity;
-      holds = λ k. iff_trans (inv.holds k) (read_taken c.args.self.now.states s c.loop-limit.limit k [] (has_state c.loop-limit.from) (λ _. false) (has_index c.loop-limit.into)
-          (has_state c.follow_epsilons.new.from) (λ _. false) (has_index c.loop-limit.into)
-          last.below last.between (sym last.marked ∙ c.if-seen.true) left.below left.from (λ t. stays_at_end st s t)
-          (λ t. names_none st t (has_index c.loop-limit.into t) (left.end t)));
-    }
-
-pub loop-limit-preserved : goal.loop-limit-preserved
-loop-limit-preserved c =
-    let inv = c.loop-limit.invariant in
-    let last = c.read_below-seen.ensures.seen in
-    let s = c.read_below-seen.result.at in
-    record {
-      within = omega (arith, last.below, inv.within);
-      from_capacity = inv.from_capacity;
-      into_capacity = inv.into_capacity;
-      holds = λ k. iff_trans (inv.holds k) (read_passed c.args.self.now.states s c.loop-limit.limit k [] (has_state c.loop-limit.from) (λ _. false) (has_index c.loop-limit.into)
-          last.below last.between (sym last.marked ∙ c.if-seen.false));
-    }
-
-pub loop-limit-init : goal.loop-limit-init
-loop-limit-init c = record {
+pub loop-s-init : goal.loop-s-init
+loop-s-init c = record {
   within = omega (arith, c.state_count-limit.ensures);
   from_capacity = refl;
   into_capacity = refl;
@@ -64,7 +46,6 @@ loop-limit-init c = record {
 
 pub returns-clause-ends : goal.returns-clause-ends
 returns-clause-ends c = λ k.
-    let past : c.loop-limit.limit ≡ 0 = omega arith in
-    let whole = iff_trans (rw past at c.loop-limit.invariant.holds k)
-    (last_position c.args.self.now.states (has_state c.loop-limit.from) (λ _. false) (has_index c.loop-limit.into) k) in
+    let whole = iff_trans (c.loop-s.invariant.holds k) (iff_trans (rest_passed c.args.self.now.states c.loop-s.limit k [] (has_state c.loop-s.from) (λ _. false) (has_index c.loop-s.into) c.in_default.ensures.found)
+    (last_position c.args.self.now.states (has_state c.loop-s.from) (λ _. false) (has_index c.loop-s.into) k)) in
     (whole.1, whole.0)

@@ -6,8 +6,8 @@ use Rattle.byte_nfa.specs.Runs.{size}
 use Rattle.byte_nfa.specs.inner.Pass.{AcceptsNow, PassInvariant}
 use Rattle.byte_nfa.proofs.nfa.Nfa.ends.Given as goal
 
-abbrev pub invariant-loop-limit : goal.invariant-loop-limit
-invariant-loop-limit l =
+abbrev pub invariant-loop-s : goal.invariant-loop-s
+invariant-loop-s l =
     let a = l.self.states in
     let n = size l.self in record {
       within : l.limit ≤ n;
@@ -16,5 +16,5 @@ invariant-loop-limit l =
       holds : (k : ℕ) → (AcceptsNow a (has_state l.fn.from) n [] k ⊎ IsTrue (has_index l.fn.into k)) ↔ PassInvariant a (has_state l.from) l.limit (λ _. false) (has_index l.into) [] k;
     }
 
-abbrev pub decreases-loop-limit : goal.decreases-loop-limit
-decreases-loop-limit l = l.limit
+abbrev pub decreases-loop-s : goal.decreases-loop-s
+decreases-loop-s l = l.limit
