@@ -43,12 +43,9 @@ pub fn list_of(set: &StateSet, limit: usize, list: &mut Vec<u32>, visits: &mut V
 {
     list.clear();
     let mut high = limit;
-    while high > 0 {
-        let seen = set.read_below(high, visits);
-        if seen.is_set {
-            push_within(list, seen.at);
-        }
-        high = seen.at;
+    while let Some(s) = set.last_below(high, visits) {
+        push_within(list, s);
+        high = s;
     }
 }
 

@@ -55,12 +55,8 @@ pub fn read(
     to.clear();
     ends.clear();
     let mut limit = automaton.state_count();
-    while limit > 0 {
-        let seen = from.read_below(limit, visits);
-        let s = seen.at;
-        if seen.is_set {
-            take(automaton, s, byte, from, to, ends);
-        }
+    while let Some(s) = from.last_below(limit, visits) {
+        take(automaton, s, byte, from, to, ends);
         limit = s;
     }
 }

@@ -322,16 +322,14 @@ fn next_end(
     ensures visits { visits.new + limit.new ≤ visits.old + limit.old }
     ensures counted { visits.old ≤ visits.new }
 {
-    while *limit > 0 {
-        let seen = from.read_below(*limit, visits);
-        *limit = seen.at;
-        if seen.is_set {
-            let end = take(automaton, seen.at, byte, lowest, from, to);
-            if end.is_some() {
-                return end;
-            }
+    while let Some(s) = from.last_below(*limit, visits) {
+        *limit = s;
+        let end = take(automaton, s, byte, lowest, from, to);
+        if end.is_some() {
+            return end;
         }
     }
+    *limit = 0;
     None
 }
 

@@ -9,7 +9,7 @@ use Rattle.byte_nfa.specs.Runs.{size, AcceptsFrom}
 use Rattle.byte_nfa.specs.Steps.{NfaValue, State, state}
 use Rattle.byte_nfa.specs.inner.Views.{GoesBelow}
 use Rattle.byte_nfa.specs.inner.Pass.{goes_now, names, AcceptsNow}
-use Rattle.byte_nfa.proofs.lemmas.Pass.{iff_trans, none_swept, some_found, read_passed, read_taken, stays_at_end, next_position}
+use Rattle.byte_nfa.proofs.lemmas.Pass.{iff_trans, none_swept, some_found, read_taken, stays_at_end, next_position}
 use Rattle.lazy_dfa.proofs.lemmas.After.{index_below}
 use Rattle.lazy_dfa.proofs.lemmas.Lists.{iff_sym}
 use Rattle.lazy_dfa.specs.inner.Sources.{half}
@@ -31,15 +31,12 @@ no_end_is (Some i) off = absurd (true≢false off)
 pub no_end_more : (P : Type 0) (o : Option ℕ) (i : ℕ) → o ≡ None → (P ⊎ (o ≡ Some i)) ↔ P
 no_end_more P o i none = (⊎_elim {C = P} (λ p. p) (λ is. absurd cc), λ p. inl p)
 
-module _ (a : List State) (s limit i : ℕ) (now : ℕ → Bool) (below : s < limit) (between : (t : ℕ) → s < t → t < limit → now t ≡ false) where
-  -- ends below the limit, where a state is passed over
-  pub end_passed : now s ≡ false → AcceptsNow a now limit [] i ↔ AcceptsNow a now s [] i
-  end_passed unmarked =
-      let none : ℕ → Bool = λ _. false in
-      iff_trans (iff_sym (none_swept a limit now none none [] i (λ t lt. refl) (λ t. refl)))
-      (iff_trans (read_passed a s limit i [] now none none below between unmarked) (none_swept a s now none none [] i (λ t lt. refl) (λ t. refl)))
+-- ends below the limit, where no state that is left is in the set
+pub ends_passed : (a : List State) (limit i : ℕ) (now : ℕ → Bool) → ((t : ℕ) → t < limit → now t ≡ false) → AcceptsNow a now limit [] i ↔ AcceptsNow a now 0 [] i
+ends_passed a limit i now none = (λ (t, lt, at, h). absurd (true≢false (sym at ∙ none t lt)), λ (t, lt, at, h). absurd (omega arith))
 
-  -- and where it is taken
+module _ (a : List State) (s limit i : ℕ) (now : ℕ → Bool) (below : s < limit) (between : (t : ℕ) → s < t → t < limit → now t ≡ false) where
+  -- and where a state is taken
   pub end_taken : (now' : ℕ → Bool) (E : Type 0) → now s ≡ true → GoesBelow s (state a s) → ((t : ℕ) → now' t ≡ (goes_now (state a s) t || now t))
       → IsTrue (names (state a s) None i) ↔ E → AcceptsNow a now limit [] i ↔ (AcceptsNow a now' s [] i ⊎ E)
   end_taken now' E marked order is_now is_end =

@@ -1,4 +1,4 @@
-use Rattle.std.proofs.Common.{◌≡◌, ℕ, ◌<◌, ◌≤◌, Bool, false, true≢false, List, [], ◌∷◌, ◌++◌, IsTrue, arith, sym, ap, subst, ◌∙◌, length-append}
+use Rattle.std.proofs.Common.{◌≡◌, ℕ, ◌<◌, ◌≤◌, Bool, false, true≢false, List, [], ◌∷◌, ◌++◌, IsTrue, arith, sym, subst, ◌∙◌, length-append}
 use Rattle.std.specs.Prelude.{◌↔◌, ◌==◌}
 use Rattle.std.proofs.lemmas.Bool.{cases_lt, eq-eqb, eqb-true, or_cases}
 use Rattle.std.proofs.Math.Logic.{⊎_elim}
@@ -9,7 +9,7 @@ use Rattle.lazy_dfa.proofs.lemmas.Listing.{below_more}
 use Rattle.lazy_dfa.proofs.lemmas.Lists.{listed_push}
 use Rattle.lazy_dfa.proofs.lists.list_of.Goals as goal
 
--- the states down to s are listed, of which none between s and the bound before is in the set
+-- the states down to s are listed: s is in the set, and no state between it and the bound before
 module _ (n s high : ℕ) (set : ℕ → Bool) (list : List ℕ) (lt : s < high) (le : high ≤ n) (between : (k : ℕ) → s < k → k < high → set k ≡ false)
     (has : (t : ℕ) → IsTrue (has_number t list) ↔ ((high ≤ t) × (t < n) × IsTrue (set t))) where
   listed_more : IsTrue (set s) → (t : ℕ) → IsTrue (has_number t (list ++ s ∷ [])) ↔ ((s ≤ t) × (t < n) × IsTrue (set t))
@@ -27,18 +27,8 @@ module _ (n s high : ℕ) (set : ℕ → Bool) (list : List ℕ) (lt : s < high)
           (λ above. listed_push t s list ∙ or_first (has_number t list) (t == s) ((has t).1 (above, small, at)))
           (cases_lt t high)
 
-  listed_same : set s ≡ false → (t : ℕ) → IsTrue (has_number t list) ↔ ((s ≤ t) × (t < n) × IsTrue (set t))
-  listed_same off t = (
-    λ h. let (low, small, at) = (has t).0 h in (omega arith, small, at),
-    λ (low, small, at). ⊎_elim {C = IsTrue (has_number t list)}
-        (λ under. ⊎_elim {C = IsTrue (has_number t list)} (λ over. absurd (true≢false (sym at ∙ between t over under)))
-        (λ down. let is : t ≡ s = omega arith in absurd (true≢false (sym at ∙ ap set is ∙ off))) (cases_lt s t))
-        (λ above. (has t).1 (above, small, at))
-        (cases_lt t high),
-  )
-
-pub loop-high-init : goal.loop-high-init
-loop-high-init c = rw c.clear.ensures.items record {
+pub loop-s-init : goal.loop-s-init
+loop-s-init c = rw c.clear.ensures.items record {
   within = omega arith;
   below = λ i lt. absurd (omega arith);
   few = omega arith;
@@ -48,39 +38,28 @@ loop-high-init c = rw c.clear.ensures.items record {
   counted = omega arith;
 }
 
-pub loop-high-preserved-then-seen : goal.loop-high-preserved-then-seen
-loop-high-preserved-then-seen c =
-    let inv = c.loop-high.invariant in
-    let last = c.read_below-seen.ensures.seen in
-    let s = c.read_below-seen.result.at in
+pub loop-s-preserved : goal.loop-s-preserved
+loop-s-preserved c =
+    let inv = c.loop-s.invariant in
+    let (lt, at, between) = c.in-Some.ensures.found in
+    let s = c.in-Some.s in
     let n = c.args.limit in
-    let list = c.loop-high.list.items in
+    let list = c.loop-s.list.items in
     rw c.push_within.ensures.items record {
-      within = omega (arith, last.below);
-      below = below_more n s list (omega (arith, last.below)) inv.below;
-      few = omega (arith, last.below, length-append list (s ∷ []));
-      has = listed_more n s c.loop-high.high (has_state c.args.set.now) list last.below inv.within last.between inv.has (sym last.marked ∙ c.if-seen.true);
+      within = omega (arith, lt);
+      below = below_more n s list (omega (arith, lt)) inv.below;
+      few = omega (arith, lt, length-append list (s ∷ []));
+      has = listed_more n s c.loop-s.high (has_state c.args.set.now) list lt inv.within between inv.has at;
       capacity = omega (arith, c.push_within.ensures.capacity);
-      visits = omega (arith, last.below, inv.visits, c.read_below-seen.ensures.visits);
-      counted = omega (arith, inv.counted, c.read_below-seen.ensures.visits);
-    }
-
-pub loop-high-preserved : goal.loop-high-preserved
-loop-high-preserved c =
-    let inv = c.loop-high.invariant in
-    let last = c.read_below-seen.ensures.seen in
-    record {
-      within = omega (arith, last.below);
-      below = inv.below;
-      few = omega (arith, last.below);
-      has = listed_same c.args.limit c.read_below-seen.result.at c.loop-high.high (has_state c.args.set.now) c.loop-high.list.items last.below inv.within last.between inv.has (sym last.marked ∙ c.if-seen.false);
-      capacity = inv.capacity;
-      visits = omega (arith, last.below, inv.visits, c.read_below-seen.ensures.visits);
-      counted = omega (arith, inv.counted, c.read_below-seen.ensures.visits);
+      visits = omega (arith, inv.visits, c.in-Some.ensures.visits);
+      counted = omega (arith, inv.counted, c.in-Some.ensures.counted);
     }
 
 pub returns-clause-has : goal.returns-clause-has
 returns-clause-has c = λ t. (
-  λ h. let (low, small, at) = (c.loop-high.invariant.has t).0 h in (small, at),
-  λ (small, at). (c.loop-high.invariant.has t).1 (omega arith, small, at),
+  λ h. let (low, small, at) = (c.loop-s.invariant.has t).0 h in (small, at),
+  λ (small, at). ⊎_elim {C = IsTrue (has_number t c.loop-s.list.items)}
+      (λ under. absurd (true≢false (sym at ∙ c.in_default.ensures.found t under)))
+      (λ above. (c.loop-s.invariant.has t).1 (above, small, at))
+      (cases_lt t c.loop-s.high),
 )

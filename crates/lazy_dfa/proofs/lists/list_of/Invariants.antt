@@ -4,8 +4,8 @@ use Rattle.bit_sets.specs.Numbers.{has_number, AreBelow}
 use Rattle.bit_sets.specs.StateSets.{has_state}
 use Rattle.lazy_dfa.proofs.lists.list_of.Given as goal
 
-abbrev pub invariant-loop-high : goal.invariant-loop-high
-invariant-loop-high l = record {
+abbrev pub invariant-loop-s : goal.invariant-loop-s
+invariant-loop-s l = record {
   within : l.high ≤ l.limit;
   below : AreBelow l.limit l.list.items;
   few : length l.list.items + l.high ≤ l.limit;
@@ -15,5 +15,5 @@ invariant-loop-high l = record {
   counted : l.fn.visits ≤ l.visits;
 }
 
-abbrev pub decreases-loop-high : goal.decreases-loop-high
-decreases-loop-high l = l.high
+abbrev pub decreases-loop-s : goal.decreases-loop-s
+decreases-loop-s l = l.high

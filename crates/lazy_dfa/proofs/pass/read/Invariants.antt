@@ -7,8 +7,8 @@ use Rattle.byte_nfa.specs.Runs.{size}
 use Rattle.byte_nfa.specs.inner.Pass.{AcceptsNow, PassInvariant}
 use Rattle.lazy_dfa.proofs.pass.read.Given as goal
 
-abbrev pub invariant-loop-limit : goal.invariant-loop-limit
-invariant-loop-limit l =
+abbrev pub invariant-loop-s : goal.invariant-loop-s
+invariant-loop-s l =
     let a = l.automaton.states in
     let n = size l.automaton in record {
       within : l.limit ≤ n;
@@ -23,5 +23,5 @@ invariant-loop-limit l =
       counted : l.fn.visits + length l.to.items ≤ l.visits;
     }
 
-abbrev pub decreases-loop-limit : goal.decreases-loop-limit
-decreases-loop-limit l = l.limit
+abbrev pub decreases-loop-s : goal.decreases-loop-s
+decreases-loop-s l = l.limit

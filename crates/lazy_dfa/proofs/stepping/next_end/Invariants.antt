@@ -4,8 +4,8 @@ use Rattle.bit_sets.specs.StateSets.{state_capacity}
 use Rattle.lazy_dfa.specs.inner.Stepping.{StepsBelow, EndsBelow}
 use Rattle.lazy_dfa.proofs.stepping.next_end.Given as goal
 
-abbrev pub invariant-loop-limit : goal.invariant-loop-limit
-invariant-loop-limit l =
+abbrev pub invariant-loop-s : goal.invariant-loop-s
+invariant-loop-s l =
     let m = l.automaton in record {
       within : l.limit ≤ l.fn.limit;
       from_capacity : state_capacity l.from ≡ state_capacity l.fn.from;
@@ -16,5 +16,5 @@ invariant-loop-limit l =
       counted : l.fn.visits ≤ l.visits;
     }
 
-abbrev pub decreases-loop-limit : goal.decreases-loop-limit
-decreases-loop-limit l = l.limit
+abbrev pub decreases-loop-s : goal.decreases-loop-s
+decreases-loop-s l = l.limit
