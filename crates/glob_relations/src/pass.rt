@@ -58,12 +58,8 @@ pub fn step_set(automaton: &Nfa, byte: u8, from: &mut StateSet, to: &mut StateSe
 {
     to.clear();
     let mut limit = automaton.state_count();
-    while limit > 0 {
-        let seen = from.read_below(limit, &mut Visits::new());
-        let s = seen.at;
-        if seen.is_set {
-            take(automaton, s, byte, from, to);
-        }
+    while let Some(s) = from.last_below(limit, &mut Visits::new()) {
+        take(automaton, s, byte, from, to);
         limit = s;
     }
 }
@@ -147,12 +143,9 @@ pub fn states_of(alloc: Global, set: &StateSet, limit: usize) -> Result<Vec<usiz
 {
     let mut list = Vec::new(alloc);
     let mut high = limit;
-    while high > 0 {
-        let seen = set.read_below(high, &mut Visits::new());
-        if seen.is_set {
-            list.push(seen.at)?;
-        }
-        high = seen.at;
+    while let Some(s) = set.last_below(high, &mut Visits::new()) {
+        list.push(s)?;
+        high = s;
     }
     Ok(list)
 }

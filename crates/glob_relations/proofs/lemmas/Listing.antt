@@ -29,7 +29,7 @@ below_push n s list lt below i small =
     (λ past. let e : i ≡ length list = omega arith in rw (ap (slice_index (list ++ s ∷ [])) e ∙ get_or-append_seam list s [] 0) lt)
     (cases_lt i (length list))
 
--- the states down to s are listed, of which none between s and the bound before is in the set
+-- the states down to s are listed: s is in the set, and no state between it and the bound before
 module _ (n s high : ℕ) (set : ℕ → Bool) (list : List ℕ) (lt : s < high) (le : high ≤ n) (between : (k : ℕ) → s < k → k < high → set k ≡ false)
     (has : (t : ℕ) → IsTrue (has_number t list) ↔ ((high ≤ t) × (t < n) × IsTrue (set t))) where
   pub listed_more : IsTrue (set s) → (t : ℕ) → IsTrue (has_number t (list ++ s ∷ [])) ↔ ((s ≤ t) × (t < n) × IsTrue (set t))
@@ -46,16 +46,6 @@ module _ (n s high : ℕ) (set : ℕ → Bool) (list : List ℕ) (lt : s < high)
           (λ down. let is : t ≡ s = omega arith in listed_push t s list ∙ or_second (has_number t list) (t == s) (eq-eqb t s is)) (cases_lt s t))
           (λ above. listed_push t s list ∙ or_first (has_number t list) (t == s) ((has t).1 (above, small, at)))
           (cases_lt t high)
-
-  pub listed_same : set s ≡ false → (t : ℕ) → IsTrue (has_number t list) ↔ ((s ≤ t) × (t < n) × IsTrue (set t))
-  listed_same off t = (
-    λ h. let (low, small, at) = (has t).0 h in (omega arith, small, at),
-    λ (low, small, at). ⊎_elim {C = IsTrue (has_number t list)}
-        (λ under. ⊎_elim {C = IsTrue (has_number t list)} (λ over. absurd (true≢false (sym at ∙ between t over under)))
-        (λ down. let is : t ≡ s = omega arith in absurd (true≢false (sym at ∙ ap set is ∙ off))) (cases_lt s t))
-        (λ above. (has t).1 (above, small, at))
-        (cases_lt t high),
-  )
 
 -- a lower number after others
 pub descending_push : (s high : ℕ) (list : List ℕ) → s < high → ((t : ℕ) → IsTrue (has_number t list) → high ≤ t) → ((i : ℕ) → i + 1 < length list → slice_index list (i + 1) < slice_index list i)

@@ -5,8 +5,8 @@ use Rattle.byte_nfa.specs.Runs.{size}
 use Rattle.byte_nfa.specs.inner.Pass.{AcceptsNow, PassInvariant}
 use Rattle.glob_relations.proofs.pass.step_set.Given as goal
 
-abbrev pub invariant-loop-limit : goal.invariant-loop-limit
-invariant-loop-limit l =
+abbrev pub invariant-loop-s : goal.invariant-loop-s
+invariant-loop-s l =
     let a = l.automaton.states in
     let n = size l.automaton in record {
       within : l.limit ≤ n;
@@ -15,5 +15,5 @@ invariant-loop-limit l =
       steps : (y : List ℕ) (k : ℕ) → AcceptsNow a (has_state l.fn.from) n (l.byte ∷ y) k ↔ PassInvariant a (has_state l.from) l.limit (has_state l.to) (λ _. false) (l.byte ∷ y) k;
     }
 
-abbrev pub decreases-loop-limit : goal.decreases-loop-limit
-decreases-loop-limit l = l.limit
+abbrev pub decreases-loop-s : goal.decreases-loop-s
+decreases-loop-s l = l.limit
