@@ -1,5 +1,4 @@
 pub mod Bits
-pub mod Seen
 pub mod Numbers
 pub mod Bytes
 pub mod Texts

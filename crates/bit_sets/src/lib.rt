@@ -15,4 +15,3 @@ pub use byte_set::ByteSet;
 pub use index_set::IndexSet;
 pub use state_set::StateSet;
 pub use visits::Visits;
-pub use words::Seen;

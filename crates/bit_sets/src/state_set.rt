@@ -3,9 +3,7 @@
 ghost use Rattle.bit_sets.specs.inner.Bounds.{AreBounds};
 
 use crate::visits::Visits;
-use crate::words::{
-    Seen, clear_between, grow, has_bit, last_below, last_in_word, set_bit, words_for,
-};
+use crate::words::{clear_between, grow, has_bit, last_in_word, set_bit, words_for};
 use std::alloc::{AllocError, Global};
 
 /// A set of states, as a bit for each.
@@ -27,7 +25,7 @@ pub struct StateSet {
 impl StateSet {
     ghost use Rattle.std.specs.Prelude.{◌≡◌, ℕ, ◌+◌, ◌<◌, ◌≤◌, ◌||◌, ◌==◌, false, MatchOption, IfOk, OnOk, IsOk, IsTrue};
     ghost use Rattle.bit_sets.specs.Bits.{TellsLastBelow};
-    ghost use Rattle.bit_sets.specs.StateSets.{has_state, state_capacity, IsHighestBelow};
+    ghost use Rattle.bit_sets.specs.StateSets.{has_state, state_capacity};
     ghost use Rattle.bit_sets.specs.Numbers.{AreBelow, has_number};
 
     /// Returns an empty set with room for no state. It allocates nothing.
@@ -120,7 +118,8 @@ impl StateSet {
 
     /// Returns the highest state of the set that is below a bound, or `None` if there is none.
     ///
-    /// It reads the words of the states between the result, or 0, and the bound. Each read is a visit.
+    /// It reads the words of the states from the bound down to the result, or to the lowest state of the set. Each read is a
+    /// visit.
     pub fn last_below(&self, limit: usize, visits: &mut Visits) -> Option<usize>
         requires { limit ≤ state_capacity self.now }
         ensures found { TellsLastBelow (has_state self.now) limit result }
@@ -143,29 +142,5 @@ impl StateSet {
             end = last / 64 * 64;
         }
         None
-    }
-
-    /// Reads the next state below a bound. This is the highest state below it in the set. If the word before the bound has no
-    /// state, it is a lower state that is not in the set, and no state between it and the bound is in the set either. It is a
-    /// visit.
-    pub fn read_below(&self, limit: usize, visits: &mut Visits) -> Seen
-        requires some { 0 < limit }
-        requires within { limit ≤ state_capacity self.now }
-        ensures seen { IsHighestBelow self.now limit result }
-        ensures visits { visits.new ≡ visits.old + 1 }
-    {
-        visits.tick();
-        let limit = if self.last < limit - 1 {
-            self.last + 1
-        } else {
-            limit
-        };
-        if limit <= self.first {
-            return Seen {
-                at: 0,
-                is_set: false,
-            };
-        }
-        last_below(&self.words, limit)
     }
 }

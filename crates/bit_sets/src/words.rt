@@ -3,16 +3,8 @@
 ghost use Rattle.std.specs.Prelude.{◌≡◌, ℕ, ◌+◌, ◌-◌, ◌*◌, ◌/◌, ◌%◌, ◌^◌, ◌<◌, ◌≤◌, ◌&&◌, ◌||◌, ◌==◌, max, not, true, false, length, OnOk, IsOk};
 ghost use Rattle.std.specs.Int.{bit_at};
 ghost use Rattle.bit_sets.specs.Bits.{bit_of, TellsFirst, TellsFirstInWord, TellsLastInWord};
-ghost use Rattle.bit_sets.specs.Seen.{IsLastBelow};
 
 use std::alloc::AllocError;
-
-/// A bit that was read, and whether it is set.
-#[derive(Clone, Copy)]
-pub struct Seen {
-    pub at: usize,
-    pub is_set: bool,
-}
 
 /// Returns the number of words with room for `bits` bits.
 pub fn words_for(bits: usize) -> usize
@@ -107,28 +99,6 @@ pub fn clear_words(words: &mut [u64], places: &[u64])
         }
         words[place] = 0;
         from = place + 1;
-    }
-}
-
-/// Returns the highest bit that is set below the bound. If the last word below the bound has no such bit, it returns the lowest
-/// bit of that word.
-pub fn last_below(words: &[u64], limit: usize) -> Seen
-    requires some { 0 < limit }
-    requires within { limit ≤ 64 * length words.now }
-    ensures { IsLastBelow words.now limit result }
-{
-    let last = limit - 1;
-    let mask = words[last / 64] & (u64::MAX >> (63 - last % 64));
-    if mask == 0 {
-        Seen {
-            at: last / 64 * 64,
-            is_set: false,
-        }
-    } else {
-        Seen {
-            at: last / 64 * 64 + (63 - mask.leading_zeros() as usize),
-            is_set: true,
-        }
     }
 }
 

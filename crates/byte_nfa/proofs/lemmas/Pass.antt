@@ -79,20 +79,7 @@ module _ (a : List State) where
           none (inr (inr (nil, is))) = true≢false (sym is)
 
   module _ (s k : ℕ) (y : List ℕ) (now next found now' next' found' : ℕ → Bool) where
-    -- a state that is not marked is passed over
-    pub passed_over : now s ≡ false → PassInvariant a now (s + 1) next found y k ↔ PassInvariant a now s next found y k
-    passed_over unmarked = (there, back)
-      where
-        there : PassInvariant a now (s + 1) next found y k → PassInvariant a now s next found y k
-        there (inl (t, lt, at, h)) = ⊎_elim {C = PassInvariant a now s next found y k} (λ past. inl (t, omega arith, at, h))
-            (λ here. let same : t ≡ s = omega arith in absurd (true≢false (sym at ∙ ap now same ∙ unmarked))) (cases_lt t s)
-        there (inr h) = inr h
-
-        back : PassInvariant a now s next found y k → PassInvariant a now (s + 1) next found y k
-        back (inl (t, lt, at, h)) = inl (t, omega arith, at, h)
-        back (inr h) = inr h
-
-    -- one that is marked gives its steps
+    -- a state that is marked gives its steps
     pub taken : now s ≡ true → ((t : ℕ) → IsTrue (goes_now (state a s) t) → t < s)
         → ((t : ℕ) → now' t ≡ (goes_now (state a s) t || now t))
         → ((t : ℕ) → next' t ≡ (goes_next (state a s) s (head y) t || next t))
@@ -189,13 +176,7 @@ module _ (a : List State) where
       there (inr (inl (c, z, t, cut, lt, at, h))) = absurd (true≢false (sym at ∙ no_next t lt))
       there (inr (inr (nil, at))) = absurd (true≢false (sym at ∙ no_found k))
 
-  -- a state is read: those between are not in the set, and this one is not either, or its steps are taken
-
-  pub read_passed : (s limit k : ℕ) (y : List ℕ) (now next found : ℕ → Bool) → s < limit → ((t : ℕ) → s < t → t < limit → now t ≡ false) → now s ≡ false
-      → PassInvariant a now limit next found y k ↔ PassInvariant a now s next found y k
-  read_passed s limit k y now next found below between unmarked =
-      iff_trans (all_passed a s limit k y now next found below between) (passed_over a s k y now next found now next found unmarked)
-
+  -- a state is read: those between are not in the set, and its steps are taken
   pub read_taken : (s limit k : ℕ) (y : List ℕ) (now next found now' next' found' : ℕ → Bool) → s < limit → ((t : ℕ) → s < t → t < limit → now t ≡ false) → now s ≡ true
       → GoesBelow s (state a s)
       → ((t : ℕ) → now' t ≡ (goes_now (state a s) t || now t))
