@@ -1,13 +1,13 @@
 //! How an automaton is made.
 
-ghost use Rattle.std.specs.Prelude.{◌≡◌, ℕ, ◌<◌, ◌++◌, ◌∷◌, [], List, length, OnOk, OnErr, IfOk, IfSome};
+ghost use Rattle.std.specs.Prelude.{◌≡◌, ℕ, ◌<◌, ◌++◌, ◌∷◌, [], List, length, OnOk, OnErr, IfOk};
 ghost use Rattle.byte_nfa.specs.Steps.{NfaValue, bytes_state, union_state, loop_state, match_state};
 ghost use Rattle.bit_sets.specs.Numbers.{AreBelow};
 ghost use Rattle.byte_nfa.specs.Building.{Pushes};
 ghost use Rattle.byte_nfa.specs.Runs.{size};
-ghost use Rattle.bit_sets.specs.declared.byte_set.ByteSet.{ByteSet};
-ghost use Rattle.byte_nfa.specs.inner.Views.{AreSound, nfa, set_at};
+ghost use Rattle.byte_nfa.specs.inner.Views.{AreSound, nfa};
 
+use crate::byte_sets::ByteSets;
 use crate::nfa::Nfa;
 use crate::state::State;
 use bit_sets::ByteSet;
@@ -34,15 +34,12 @@ use std::marker::Model;
 /// numbers below `2^32`: if sets of 128 GiB use these up, the error is that memory ran out.
 pub struct Builder {
     states: Vec<State>,
-    /// The sets of bytes of the states. A set can stand here more than once.
-    sets: Vec<ByteSet>,
+    /// The sets of bytes of the states.
+    sets: ByteSets,
     /// What states go on to without a byte: for each that was pushed with a list, the length of the list and then the list.
     targets: Vec<usize>,
     starts: Vec<usize>,
     index_count: usize,
-    /// For each place of a set, the number of the set of this place that was pushed last. It is empty as long as there are few
-    /// sets. Most sets that are pushed are found by it, and not pushed again.
-    recent: Vec<u32>,
 }
 
 impl Drop for Builder {
@@ -53,7 +50,6 @@ impl Drop for Builder {
             targets: _,
             starts: _,
             index_count: _,
-            recent: _,
         } = self;
     }
 }
@@ -61,9 +57,9 @@ impl Drop for Builder {
 impl Model for Builder {
     ghost Value = { NfaValue };
 
-    ghost view = { λ b. nfa b.sets.items b.targets.items b.states.items b.starts.items b.index_count };
+    ghost view = { λ b. nfa b.sets.sets.items b.targets.items b.states.items b.starts.items b.index_count };
 
-    ghost invariant = { λ b. AreSound b.sets.items b.targets.items b.states.items b.starts.items b.index_count };
+    ghost invariant = { λ b. AreSound b.sets.sets.items b.targets.items b.states.items b.starts.items b.index_count };
 }
 
 impl Builder {
@@ -75,11 +71,10 @@ impl Builder {
     {
         Builder {
             states: Vec::new(alloc),
-            sets: Vec::new(alloc),
+            sets: ByteSets::new(alloc),
             targets: Vec::new(alloc),
             starts: Vec::new(alloc),
             index_count,
-            recent: Vec::new(alloc),
         }
     }
 
@@ -97,7 +92,7 @@ impl Builder {
         ensures unchanged { OnErr result (self.new ≡ self.old) }
     {
         let at = self.states.len();
-        let set = hold_set(&mut self.sets, &mut self.recent, bytes)?;
+        let set = self.sets.number_of(bytes)?;
         self.states.push(State::Bytes(set, next))?;
         Ok(at)
     }
@@ -122,7 +117,7 @@ impl Builder {
         ensures unchanged { OnErr result (self.new ≡ self.old) }
     {
         let at = self.states.len();
-        let set = hold_set(&mut self.sets, &mut self.recent, bytes)?;
+        let set = self.sets.number_of(bytes)?;
         self.states.push(State::Loop(set, exit))?;
         Ok(at)
     }
@@ -157,12 +152,12 @@ impl Builder {
     {
         let Builder {
             mut states,
-            mut sets,
+            sets,
             mut targets,
             mut starts,
             index_count: count,
-            recent: _,
         } = self;
+        let mut sets = sets.into_vec();
         // Nothing is pushed any more. A set of globs can have many small automata.
         states.shrink_to_fit();
         sets.shrink_to_fit();
@@ -182,52 +177,4 @@ fn hold_list(held: &mut Vec<usize>, list: &[usize]) -> Result<usize, AllocError>
     held.push(list.len())?;
     held.extend_from_slice(list)?;
     Ok(at)
-}
-
-/// With more sets than these, a set is looked for at its place alone.
-const FEW_SETS: usize = 24;
-
-/// Returns the number of a set, which is appended if it is not found.
-///
-/// Returns an error if memory runs out, or numbers do, which sets of 128 GiB use up.
-fn hold_set(
-    sets: &mut Vec<ByteSet>,
-    recent: &mut Vec<u32>,
-    bytes: ByteSet,
-) -> Result<u32, AllocError>
-    ensures held { IfOk result
-        (λ n. (n < length sets.new.items) × (set_at sets.new.items n ≡ bytes)) }
-    ensures more { (more : List ByteSet) × (sets.new.items ≡ sets.old.items ++ more) }
-{
-    let place = bytes.place();
-    if let Some(number) = number_of(sets, recent, place, &bytes) {
-        return Ok(number);
-    }
-    let Ok(number) = u32::try_from(sets.len()) else {
-        return Err(AllocError);
-    };
-    if sets.len() == FEW_SETS {
-        recent.resize(256, 0)?;
-    }
-    sets.push(bytes)?;
-    if let Some(last) = recent.get_mut(place) {
-        *last = number;
-    }
-    Ok(number)
-}
-
-/// Returns a number of a set: the number at its place, if it is that of the set. If there are no places, all sets are read.
-fn number_of(sets: &[ByteSet], recent: &[u32], place: usize, bytes: &ByteSet) -> Option<u32>
-    ensures { IfSome result (λ n. (n < length sets.now) × (set_at sets.now n ≡ bytes.now)) }
-{
-    match recent.get(place) {
-        Some(number) => {
-            let set = sets.get(*number as usize)?;
-            if set.is(bytes) { Some(*number) } else { None }
-        }
-        None => {
-            let number = sets.iter().position(|set| set.is(bytes))?;
-            u32::try_from(number).ok()
-        }
-    }
 }

@@ -6,6 +6,7 @@
 #![tactic(auto)]
 
 mod builder;
+mod byte_sets;
 mod nfa;
 mod sharing;
 mod state;

@@ -348,6 +348,11 @@ impl Nfa {
         })
     }
 
+    /// Returns a state as it is stored, or `None` if there are no more states than its number.
+    pub(crate) fn stored(&self, s: usize) -> Option<State> {
+        self.states.get(s).copied()
+    }
+
     /// Returns the state that a state goes on to by a byte, or `None` if there is none.
     pub fn next_by(&self, s: usize, byte: u8) -> Option<usize>
         requires { s < size self.now }

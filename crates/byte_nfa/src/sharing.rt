@@ -13,11 +13,8 @@ ghost use Rattle.byte_nfa.specs.inner.Known.{IsSharing, IsKnown};
 ghost use Rattle.byte_nfa.specs.inner.Lists.{AcceptAlike, IsStateFor};
 ghost use Rattle.byte_nfa.specs.Reading.{is_read};
 
-mod order;
-
 use crate::builder::Builder;
 use crate::nfa::{Nfa, StateRef};
-use order::{SetNumbers, ordered};
 use std::alloc::{AllocError, Global};
 use std::collections::HashMap;
 use std::hash::{FoldHasher, Hash, Hasher};
@@ -46,7 +43,6 @@ pub fn shared(alloc: Global, automaton: &Nfa) -> Result<Option<Nfa>, AllocError>
 struct Sharing {
     known: KnownLists,
     waiting: Vec<Vec<usize>>,
-    sets: SetNumbers,
     /// The work that may still be done.
     left: usize,
 }
@@ -76,7 +72,6 @@ pub fn start_state(
     let mut sharing = Sharing {
         known: KnownLists::new(alloc, automaton.state_count())?,
         waiting: Vec::new(alloc),
-        sets: SetNumbers::new(alloc)?,
         left: budget(automaton),
     };
     let starts = Vec::from_slice(alloc, automaton.starts())?;
@@ -152,10 +147,11 @@ impl Sharing {
                 return Ok(Some(Vec::from_slice(alloc, list)?));
             }
         }
-        let Some(states) = expanded(alloc, automaton, list, &mut self.left)? else {
+        let Some(mut states) = expanded(alloc, automaton, list, &mut self.left)? else {
             return Ok(None);
         };
-        Ok(Some(ordered(alloc, automaton, &states, &mut self.sets)?))
+        states.sort_unstable_by_key(|s| automaton.stored(*s));
+        Ok(Some(states))
     }
 }
 

@@ -17,7 +17,9 @@ use bit_sets::{ByteSet, StateSet, Visits};
 ///
 /// States are numbered in the order of their pushes, and a state's next states were there before it. So numbers go down along
 /// each step.
-#[derive(Clone, Copy)]
+///
+/// They are ordered by their kind, then by the number of their set or by their index, and then by their next state.
+#[derive(Clone, Copy, PartialEq, Eq, PartialOrd, Ord)]
 pub enum State {
     /// Reads a byte of the set and goes on.
     Bytes(u32, usize),

@@ -9,7 +9,7 @@ pub invariant_of-self-2 : goal.invariant_of-self-2
 invariant_of-self-2 c =
     let inside = c.self.inside in
     let sound = c.self.invariant in
-    let count : length inside.states.items ≡ size c.args.self.now = sym (length-map inside.states.items (of_state inside.sets.items inside.targets.items)) ∙ ap size c.self.view_is in
+    let count : length inside.states.items ≡ size c.args.self.now = sym (length-map inside.states.items (of_state inside.sets.sets.items inside.targets.items)) ∙ ap size c.self.view_is in
     rw c.in_ok-push.ensures.items record {
       held = sound.held;
       down = sound.down;

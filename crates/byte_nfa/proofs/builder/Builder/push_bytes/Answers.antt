@@ -12,7 +12,7 @@ invariant_of-self c =
     let inside = c.self.inside in
     let targets = inside.targets.items in
     let more = c.in_err-set.ensures.more in
-    sound_more c.args.self.now inside.sets.items c.hold_set.new.sets.items more.0 targets targets [] more.1 (sym (append-nil targets))
+    sound_more c.args.self.now inside.sets.sets.items c.number_of.new.self.sets.items more.0 targets targets [] more.1 (sym (append-nil targets))
     inside.states.items inside.starts.items inside.index_count c.self.view_is c.self.invariant
 
 pub returns-in_err-set-clause-unchanged : goal.returns-in_err-set-clause-unchanged
@@ -20,7 +20,7 @@ returns-in_err-set-clause-unchanged c =
     let inside = c.self.inside in
     let targets = inside.targets.items in
     let more = c.in_err-set.ensures.more in
-    on_err c.from_residual.result (nfa_more c.args.self.now inside.sets.items c.hold_set.new.sets.items more.0 targets targets [] more.1 (sym (append-nil targets))
+    on_err c.from_residual.result (nfa_more c.args.self.now inside.sets.sets.items c.number_of.new.self.sets.items more.0 targets targets [] more.1 (sym (append-nil targets))
     inside.states.items inside.starts.items inside.index_count c.self.view_is c.self.invariant)
 
 pub invariant_of-self-in_err-push : goal.invariant_of-self-in_err-push
@@ -28,7 +28,7 @@ invariant_of-self-in_err-push c =
     let inside = c.self.inside in
     let targets = inside.targets.items in
     let more = c.in_ok-set.ensures.more in
-    rw c.in_err-push.ensures.items (sound_more c.args.self.now inside.sets.items c.hold_set.new.sets.items more.0 targets targets [] more.1 (sym (append-nil targets))
+    rw c.in_err-push.ensures.items (sound_more c.args.self.now inside.sets.sets.items c.number_of.new.self.sets.items more.0 targets targets [] more.1 (sym (append-nil targets))
     inside.states.items inside.starts.items inside.index_count c.self.view_is c.self.invariant)
 
 pub returns-in_err-push-clause-unchanged : goal.returns-in_err-push-clause-unchanged
@@ -36,7 +36,7 @@ returns-in_err-push-clause-unchanged c =
     let inside = c.self.inside in
     let targets = inside.targets.items in
     let more = c.in_ok-set.ensures.more in
-    on_err c.from_residual-in_err-push.result (rw c.in_err-push.ensures.items (nfa_more c.args.self.now inside.sets.items c.hold_set.new.sets.items more.0 targets targets [] more.1 (sym (append-nil targets))
+    on_err c.from_residual-in_err-push.result (rw c.in_err-push.ensures.items (nfa_more c.args.self.now inside.sets.sets.items c.number_of.new.self.sets.items more.0 targets targets [] more.1 (sym (append-nil targets))
     inside.states.items inside.starts.items inside.index_count c.self.view_is c.self.invariant))
 
 pub invariant_of-self-2 : goal.invariant_of-self-2
@@ -46,10 +46,10 @@ invariant_of-self-2 c =
     let states = inside.states.items in
     let more = c.in_ok-set.ensures.more in
     let held = c.in_ok-set.ensures.held in
-    rw c.in_ok-push.ensures.items (sound_with c.args.self.now inside.sets.items c.hold_set.new.sets.items more.0 targets targets [] more.1 (sym (append-nil targets))
+    rw c.in_ok-push.ensures.items (sound_with c.args.self.now inside.sets.sets.items c.number_of.new.self.sets.items more.0 targets targets [] more.1 (sym (append-nil targets))
     states inside.starts.items inside.index_count c.self.view_is c.self.invariant
     (Bytes c.in_ok-set.set c.args.next) (bytes_state c.args.bytes c.args.next) (ap (λ w. bytes_state w c.args.next) held.1)
-    held.0 (omega (arith, c.requires, ap size c.self.view_is, length-map states (of_state inside.sets.items targets))) tt)
+    held.0 (omega (arith, c.requires, ap size c.self.view_is, length-map states (of_state inside.sets.sets.items targets))) tt)
 
 pub returns-clause-pushed : goal.returns-clause-pushed
 returns-clause-pushed c =
@@ -57,7 +57,7 @@ returns-clause-pushed c =
     let targets = inside.targets.items in
     let more = c.in_ok-set.ensures.more in
     let held = c.in_ok-set.ensures.held in
-    rw c.in_ok-push.ensures.items (pushes_with c.args.self.now inside.sets.items c.hold_set.new.sets.items more.0 targets targets [] more.1 (sym (append-nil targets))
+    rw c.in_ok-push.ensures.items (pushes_with c.args.self.now inside.sets.sets.items c.number_of.new.self.sets.items more.0 targets targets [] more.1 (sym (append-nil targets))
     inside.states.items inside.starts.items inside.index_count c.self.view_is c.self.invariant
     (Bytes c.in_ok-set.set c.args.next) (bytes_state c.args.bytes c.args.next) (ap (λ w. bytes_state w c.args.next) held.1)
     c.len-at.result (omega (arith, c.len-at.ensures, inside.states.ok.0)))

@@ -7,13 +7,13 @@ use Rattle.byte_nfa.proofs.builder.Builder.push_match.Goals as goal
 
 pub invariant_of-self-2 : goal.invariant_of-self-2
 invariant_of-self-2 c =
-    rw c.in_ok-push.ensures.items (sound_push c.self.inside.sets.items c.self.inside.targets.items c.self.inside.states.items (Match c.args.index) c.self.inside.starts.items c.self.inside.index_count c.self.invariant
+    rw c.in_ok-push.ensures.items (sound_push c.self.inside.sets.sets.items c.self.inside.targets.items c.self.inside.states.items (Match c.args.index) c.self.inside.starts.items c.self.inside.index_count c.self.invariant
     tt tt (omega (arith, c.requires, ap (λ (m : NfaValue). m.index_count) c.self.view_is)))
 
 pub returns-clause-pushed : goal.returns-clause-pushed
 returns-clause-pushed c =
     let inside = c.self.inside in
-    let sets = inside.sets.items in
+    let sets = inside.sets.sets.items in
     let targets = inside.targets.items in
     rw c.in_ok-push.ensures.items (pushes_with c.args.self.now sets sets [] targets targets [] (sym (append-nil sets)) (sym (append-nil targets))
     inside.states.items inside.starts.items inside.index_count c.self.view_is c.self.invariant

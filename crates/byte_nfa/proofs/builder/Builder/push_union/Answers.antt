@@ -10,7 +10,7 @@ use Rattle.byte_nfa.proofs.builder.Builder.push_union.Goals as goal
 pub invariant_of-self : goal.invariant_of-self
 invariant_of-self c =
     let inside = c.self.inside in
-    let sets = inside.sets.items in
+    let sets = inside.sets.sets.items in
     let more = c.in_err-list.ensures.more in
     sound_more c.args.self.now sets sets [] inside.targets.items c.hold_list.new.held.items more.0 (sym (append-nil sets)) more.1
     inside.states.items inside.starts.items inside.index_count c.self.view_is c.self.invariant
@@ -18,7 +18,7 @@ invariant_of-self c =
 pub returns-in_err-list-clause-unchanged : goal.returns-in_err-list-clause-unchanged
 returns-in_err-list-clause-unchanged c =
     let inside = c.self.inside in
-    let sets = inside.sets.items in
+    let sets = inside.sets.sets.items in
     let more = c.in_err-list.ensures.more in
     on_err c.from_residual.result (nfa_more c.args.self.now sets sets [] inside.targets.items c.hold_list.new.held.items more.0 (sym (append-nil sets)) more.1
     inside.states.items inside.starts.items inside.index_count c.self.view_is c.self.invariant)
@@ -26,7 +26,7 @@ returns-in_err-list-clause-unchanged c =
 pub invariant_of-self-in_err-push : goal.invariant_of-self-in_err-push
 invariant_of-self-in_err-push c =
     let inside = c.self.inside in
-    let sets = inside.sets.items in
+    let sets = inside.sets.sets.items in
     let more = c.in_ok-list.ensures.more in
     rw c.in_err-push.ensures.items (sound_more c.args.self.now sets sets [] inside.targets.items c.hold_list.new.held.items more.0 (sym (append-nil sets)) more.1
     inside.states.items inside.starts.items inside.index_count c.self.view_is c.self.invariant)
@@ -34,7 +34,7 @@ invariant_of-self-in_err-push c =
 pub returns-in_err-push-clause-unchanged : goal.returns-in_err-push-clause-unchanged
 returns-in_err-push-clause-unchanged c =
     let inside = c.self.inside in
-    let sets = inside.sets.items in
+    let sets = inside.sets.sets.items in
     let more = c.in_ok-list.ensures.more in
     on_err c.from_residual-in_err-push.result (rw c.in_err-push.ensures.items (nfa_more c.args.self.now sets sets [] inside.targets.items c.hold_list.new.held.items more.0 (sym (append-nil sets)) more.1
     inside.states.items inside.starts.items inside.index_count c.self.view_is c.self.invariant))
@@ -42,7 +42,7 @@ returns-in_err-push-clause-unchanged c =
 pub invariant_of-self-2 : goal.invariant_of-self-2
 invariant_of-self-2 c =
     let inside = c.self.inside in
-    let sets = inside.sets.items in
+    let sets = inside.sets.sets.items in
     let targets = inside.targets.items in
     let states = inside.states.items in
     let list = c.args.targets.now in
@@ -55,7 +55,7 @@ invariant_of-self-2 c =
 pub returns-clause-pushed : goal.returns-clause-pushed
 returns-clause-pushed c =
     let inside = c.self.inside in
-    let sets = inside.sets.items in
+    let sets = inside.sets.sets.items in
     let targets = inside.targets.items in
     let list = c.args.targets.now in
     rw (c.in_ok-push.ensures.items, c.in_ok-list.ensures.items, c.in_ok-list.ensures.at) (pushes_with c.args.self.now sets sets [] targets (targets ++ length list ∷ list) (length list ∷ list) (sym (append-nil sets)) refl
