@@ -69,7 +69,7 @@ impl Cache {
 
     /// Returns whether rows were forgotten since it was made, because there was no room for another.
     pub fn has_forgotten(&self) -> bool {
-        self.rows.has_forgotten()
+        self.rows.seed != 0
     }
 
     /// Returns the bytes that its rows may take. It also has a few bits for each state and for each index.

@@ -161,11 +161,6 @@ impl Rows {
             .saturating_mul(mem::size_of::<u32>())
     }
 
-    /// Returns whether rows were forgotten since it was made.
-    pub fn has_forgotten(&self) -> bool {
-        self.seed != 0
-    }
-
     /// Returns the place of the row in which a run begins. If it is not made, it is looked up, which is a visit.
     pub fn start(&mut self, automaton: &Nfa, visits: &mut Visits) -> usize
         requires { IsSound automaton.now self.old }
@@ -309,7 +304,7 @@ impl Rows {
 
     /// Returns whether the row at a place leads to some end without a byte. If it does, `ends` has afterwards the indexes of these.
     ///
-    /// It is as many visits as [`Rows::finish_row`] makes.
+    /// If it is known to which ends it leads, that is one visit. Otherwise each state is read at most once, and is one visit.
     pub fn finish(&mut self, automaton: &Nfa, place: usize, visits: &mut Visits) -> bool
         // The rows are right for the automaton, which has a state, and there is a row at the place.
         requires sound { IsSound automaton.now self.old }
@@ -329,29 +324,6 @@ impl Rows {
         ensures counted { visits.old ≤ visits.new }
     {
         let row = self.row_at(place);
-        self.finish_row(automaton, row, visits)
-    }
-
-    /// Returns whether a row leads to some end without a byte. If it does, `ends` has afterwards the indexes of these.
-    ///
-    /// If it is known that it leads to none, that is one visit. Otherwise each state is read at most once, and is one visit.
-    fn finish_row(&mut self, automaton: &Nfa, row: usize, visits: &mut Visits) -> bool
-        // The rows are right for the automaton, which has a state, and the row is one of them.
-        requires sound { IsSound automaton.now self.old }
-        requires row { row < length self.old.starts.items }
-        requires some { 0 < size automaton.now }
-
-        // The rows stay right, and the result says whether the row has ends without a byte. If it has any, `ends` has these.
-        ensures sound { IsSound automaton.now self.new }
-        ensures some { IsTrue result
-            ↔ ((k : ℕ) × (k < half automaton.now + half automaton.now)
-            × AcceptsRow automaton.now self.old row [] k) }
-        ensures ends { IsTrue result → HasEnds automaton.now self.old row self.new.ends }
-
-        // The visits are bounded, and do not become fewer.
-        ensures visits { visits.new ≤ visits.old + size automaton.now }
-        ensures counted { visits.old ≤ visits.new }
-    {
         let column = self.class_count;
         let end = self.entry(row, column);
         if end == DEAD {
@@ -585,24 +557,14 @@ impl Rows {
             if number == 0 {
                 return None;
             }
-            if self.has_list(number - 1) {
-                return Some(number - 1);
+            let row = number - 1;
+            if row < self.starts.len()
+                && states_at(&self.starts, &self.lists, row) == self.list.as_slice()
+            {
+                return Some(row);
             }
         }
         None
-    }
-
-    /// Returns whether a row is there, and is that of the states in `list`.
-    fn has_list(&self, row: usize) -> bool
-        requires { AreListed self.now }
-        ensures { IsTrue result
-            → (row < length self.now.starts.items)
-            × (states_of self.now row ≡ self.now.list.items) }
-    {
-        if row >= self.starts.len() {
-            return false;
-        }
-        states_at(&self.starts, &self.lists, row) == self.list.as_slice()
     }
 
     /// Makes room for a row. Returns whether no row was forgotten.
