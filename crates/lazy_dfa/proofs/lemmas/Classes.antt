@@ -5,7 +5,11 @@ use Rattle.std.proofs.lemmas.List.{get_or-set_same, get_or-set_other}
 use Rattle.std.proofs.Math.Logic.{⊎_elim}
 use Rattle.byte_nfa.specs.Steps.{State}
 use Rattle.byte_nfa.specs.Equivalent.{AreEquivalent}
-use Rattle.lazy_dfa.specs.inner.Classes.{AreEquivalenceClassesBelow}
+
+-- each byte below the bound has a class up to the last, and is read as the first byte of the class
+abbrev pub AreEquivalenceClassesBelow : List State → List ℕ → List ℕ → ℕ → ℕ → Type 0
+AreEquivalenceClassesBelow a class_of representatives last bound =
+    (b : ℕ) → b < bound → (slice_index class_of b ≤ last) × AreEquivalent a (slice_index representatives (slice_index class_of b)) b
 
 pub equivalence_first : (a : List State) (class_of representatives : List ℕ) → slice_index class_of 0 ≡ 0 → slice_index representatives 0 ≡ 0 → AreEquivalenceClassesBelow a class_of representatives 0 1
 equivalence_first a class_of representatives zero_of zero_first b lt =

@@ -23,7 +23,7 @@ use Rattle.bit_sets.specs.declared.index_set.IndexSet.{IndexSet}
 use Rattle.lazy_dfa.proofs.lemmas.Lists as Lists
 use Rattle.lazy_dfa.proofs.lemmas.Lists.{keeps_lists, list_last}
 use Rattle.lazy_dfa.specs.declared.rows.Rows.{Rows}
-use Rattle.lazy_dfa.specs.inner.Rows.{AcceptsIn, AcceptsRow, IsNext, IsEnd, IsEntry, IsEntryBy, IsSound, HasEnds, HasMarks, MarksAre, GoesTo, IsDeadBy, HasRoomFor, marked, KeepsRows, states_of, place_of, max_entries, IsAt, BeginsAt}
+use Rattle.lazy_dfa.specs.inner.Rows.{AcceptsIn, AcceptsRow, IsNext, IsEnd, IsEntry, IsEntryBy, IsSound, HasEnds, HasMarks, GoesTo, IsDeadBy, HasRoomFor, marked, KeepsRows, states_of, place_of, max_entries, IsAt, BeginsAt}
 
 -- places of entries
 
@@ -378,6 +378,10 @@ next_by m rows i b c e there back is = record {
   dead = λ d y k a. is.dead d y k (in_equivalent m (states_of rows i) c b y k there a);
   row = λ some. let (j, at, goes) = is.row some in (j, at, λ y k. (λ a. (goes y k).0 (in_equivalent m (states_of rows i) c b y k there a), λ a. in_equivalent m (states_of rows i) b c y k back ((goes y k).1 a)));
 }
+
+-- the number that is added to the entries of a row
+abbrev pub MarksAre : NfaValue → Rows → ℕ → ℕ → Type 0
+MarksAre m rows i n = (HasMarks m rows i × (n ≡ marked)) ⊎ ((HasMarks m rows i → ⊥) × (n ≡ 0))
 
 -- what an entry says of one byte, it says of each of the class
 pub entry_by : (m : NfaValue) (rows : Rows) (i b e marks : ℕ) → IsSound m rows → b < 256 → 0 < e → e < marked → MarksAre m rows i marks → IsNext m rows i b e → IsEntry m rows i (slice_index rows.class_of b) (e + marks)

@@ -1,12 +1,7 @@
 -- Classes of bytes that states read alike.
-use Rattle.std.specs.Prelude.{ℕ, ◌<◌, ◌≤◌, List, slice_index}
+use Rattle.std.specs.Prelude.{ℕ, ◌<◌, List, slice_index}
 use Rattle.byte_nfa.specs.Steps.{State}
 use Rattle.byte_nfa.specs.Equivalent.{AreEquivalent}
-
--- each byte below the bound has a class up to the last, and is read as the first byte of the class
-abbrev pub AreEquivalenceClassesBelow : List State → List ℕ → List ℕ → ℕ → ℕ → Type 0
-AreEquivalenceClassesBelow a class_of representatives last bound =
-    (b : ℕ) → b < bound → (slice_index class_of b ≤ last) × AreEquivalent a (slice_index representatives (slice_index class_of b)) b
 
 -- each byte has a class, and is read as the first byte of the class
 abbrev pub AreEquivalenceClasses : List State → List ℕ → List ℕ → ℕ → Type 0

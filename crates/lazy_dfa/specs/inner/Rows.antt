@@ -52,10 +52,6 @@ HasEnds m rows i ends = (k : ℕ) → k < half m + half m → IsTrue (has_index 
 abbrev pub marked : ℕ
 marked = 2147483648
 
--- the number that is added to the entries of a row
-abbrev pub MarksAre : NfaValue → Rows → ℕ → ℕ → Type 0
-MarksAre m rows i n = (HasMarks m rows i × (n ≡ marked)) ⊎ ((HasMarks m rows i → ⊥) × (n ≡ 0))
-
 -- where a run begins: at the place p is a row that leads to the same ends as the automaton
 abbrev pub BeginsAt : NfaValue → Rows → ℕ → Type 0
 BeginsAt m rows p = (j : ℕ) × IsAt rows j p × ((y : List ℕ) (k : ℕ) → AcceptsRow m rows j y k ↔ IsReached m y k)

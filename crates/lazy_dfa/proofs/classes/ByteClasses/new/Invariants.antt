@@ -1,5 +1,5 @@
 use Rattle.std.proofs.Common.{◌≡◌, ◌-◌, ◌<◌, length, slice_index}
-use Rattle.lazy_dfa.specs.inner.Classes.{AreEquivalenceClassesBelow}
+use Rattle.lazy_dfa.proofs.lemmas.Classes.{AreEquivalenceClassesBelow}
 use Rattle.lazy_dfa.proofs.classes.ByteClasses.new.Given as goal
 
 abbrev pub invariant-loop-i : goal.invariant-loop-i
