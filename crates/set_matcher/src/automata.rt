@@ -1,6 +1,6 @@
 //! Globs that no text decides: automata of their tokens.
 
-ghost use Rattle.std.specs.Prelude.{◌≡◌, ◌+◌, ◌*◌, ◌<◌, ◌≤◌, ◌↔◌, [], ℕ, length, Some, true, false, IsTrue, IsOk, OnOk, OnErr, IfOk};
+ghost use Rattle.std.specs.Prelude.{◌≡◌, ◌+◌, ◌*◌, ◌<◌, ◌≤◌, ◌↔◌, [], ℕ, length, Some, true, false, IsTrue, IsOk, OnOk, IfOk};
 ghost use Rattle.byte_nfa.specs.Runs.{size};
 ghost use Rattle.bit_sets.specs.Indexes.{index_capacity};
 ghost use Rattle.bit_sets.specs.Texts.{AllBytes};
@@ -296,25 +296,19 @@ impl Automata {
     }
 }
 
-/// Makes [`Automata`] if some glob needs an automaton. Until then it has no builders, so that little is moved for a set without
-/// automata.
+/// Makes [`Automata`] if some glob needs an automaton.
 #[derive(Drop)]
 pub struct AutomataBuilder {
-    index_count: usize,
-    /// They are made for the first glob that needs an automaton.
-    builders: Option<Box<Builders>>,
-}
-
-/// A builder for each part of a path that automata are run on.
-#[derive(Drop)]
-struct Builders {
     by_path: Builder,
     by_component: Builder,
     extensions: ExtensionMatchersBuilder,
+    /// Whether tokens were added to any of them.
+    is_used: bool,
 }
 
-impl Model for Builders {
-    ghost use Rattle.set_matcher.specs.inner.Automata.{AutomataParts, HaveOneCount};
+impl Model for AutomataBuilder {
+    ghost use Rattle.set_matcher.specs.inner.Automata.{AutomataParts};
+    ghost use Rattle.set_matcher.specs.inner.Builders.{AreCollected};
 
     ghost Value = { AutomataParts };
 
@@ -324,19 +318,7 @@ impl Model for Builders {
       extensions = b.extensions;
     } };
 
-    ghost invariant = { λ b. HaveOneCount b.by_path b.by_component b.extensions };
-}
-
-impl Model for AutomataBuilder {
-    ghost use Rattle.std.specs.Prelude.{◌≡◌};
-    ghost use Rattle.set_matcher.specs.inner.Automata.{AutomataParts, automata_or_none};
-
-    ghost Value = { AutomataParts };
-
-    ghost view = { λ a. automata_or_none a.index_count a.builders };
-
-    ghost invariant = { λ a.
-        (automata_or_none a.index_count a.builders).extensions.index_count ≡ a.index_count };
+    ghost invariant = { λ b. AreCollected b.by_path b.by_component b.extensions b.is_used };
 }
 
 /// The automaton that tokens are added to, by what it is run on: the whole path, its last component, or the path before its
@@ -350,12 +332,14 @@ pub enum Target {
 
 impl AutomataBuilder {
     /// Returns a builder that nothing was added to. Indexes have to be below `index_count`. It allocates nothing.
-    pub fn new(index_count: usize) -> AutomataBuilder
+    pub fn new(alloc: Global, index_count: usize) -> AutomataBuilder
         ensures { result ≡ no_automata index_count }
     {
         AutomataBuilder {
-            index_count,
-            builders: None,
+            by_path: new_builder(alloc, index_count),
+            by_component: new_builder(alloc, index_count),
+            extensions: ExtensionMatchersBuilder::new(alloc, index_count),
+            is_used: false,
         }
     }
 
@@ -363,19 +347,7 @@ impl AutomataBuilder {
     pub fn index_count(&self) -> usize
         ensures { result ≡ self.now.extensions.index_count }
     {
-        self.index_count
-    }
-
-    /// Takes the builders out, which are made if there are none. Returns an error if memory runs out.
-    fn take(&mut self, alloc: Global) -> Result<Box<Builders>, AllocError>
-        ensures taken { IfOk result (λ b. b.value ≡ self.old) }
-        ensures kept { OnErr result (self.new ≡ self.old) }
-        ensures count { self.new.extensions.index_count ≡ self.old.extensions.index_count }
-    {
-        match self.builders.take() {
-            Some(builders) => Ok(builders),
-            None => Ok(Box::new(alloc, Builders::new(alloc, self.index_count))?),
-        }
+        self.extensions.index_count()
     }
 
     /// Adds tokens to an automaton. It takes time and memory linear in the tokens.
@@ -393,10 +365,16 @@ impl AutomataBuilder {
             (AddsTo target self.old self.new (indexed options (tokens_of tokens.now) index)) }
         ensures count { self.new.extensions.index_count ≡ self.old.extensions.index_count }
     {
-        let mut builders = self.take(alloc)?;
-        let added = builders.add(alloc, target, options, tokens, index);
-        self.builders = Some(builders);
-        added
+        self.is_used = true;
+        match target {
+            Target::Path => add_tokens(alloc, &mut self.by_path, options, tokens, index),
+            Target::LastComponent => {
+                add_tokens(alloc, &mut self.by_component, options, tokens, index)
+            }
+            Target::Extension(key) => self
+                .extensions
+                .add_tokens(alloc, key, options, tokens, index),
+        }
     }
 
     /// Returns the automata of the globs that were added, or `None` if there are none. The rows that are kept between calls take
@@ -410,67 +388,14 @@ impl AutomataBuilder {
             (λ automata. automata_or_none self.extensions.index_count automata ≡ self) }
     {
         let AutomataBuilder {
-            index_count: _,
-            builders,
-        } = self;
-        match builders {
-            Some(builders) => {
-                let automata = Box::into_inner(builders).finish(alloc, dfa_size_limit)?;
-                Ok(Some(Box::new(alloc, automata)?))
-            }
-            None => Ok(None),
-        }
-    }
-}
-
-impl Builders {
-    /// Returns builders that nothing was added to.
-    fn new(alloc: Global, index_count: usize) -> Builders
-        ensures { result ≡ no_automata index_count }
-    {
-        Builders {
-            by_path: new_builder(alloc, index_count),
-            by_component: new_builder(alloc, index_count),
-            extensions: ExtensionMatchersBuilder::new(alloc, index_count),
-        }
-    }
-
-    /// Like [`AutomataBuilder::add`].
-    fn add(
-        &mut self,
-        alloc: Global,
-        target: Target,
-        options: Options,
-        tokens: &[Token],
-        index: usize,
-    ) -> Result<(), AllocError>
-        requires nested { IsNested (flats tokens.now) }
-        requires index { index < self.old.extensions.index_count }
-        ensures added { OnOk result
-            (AddsTo target self.old self.new (indexed options (tokens_of tokens.now) index)) }
-        ensures count { self.new.extensions.index_count ≡ self.old.extensions.index_count }
-    {
-        match target {
-            Target::Path => add_tokens(alloc, &mut self.by_path, options, tokens, index),
-            Target::LastComponent => {
-                add_tokens(alloc, &mut self.by_component, options, tokens, index)
-            }
-            Target::Extension(key) => self
-                .extensions
-                .add_tokens(alloc, key, options, tokens, index),
-        }
-    }
-
-    /// Returns what was added. The rows that are kept between calls take at most `dfa_size_limit` bytes. Returns an error if
-    /// memory runs out.
-    fn finish(self, alloc: Global, dfa_size_limit: usize) -> Result<Automata, AllocError>
-        ensures { IfOk result (λ automata. automata ≡ self) }
-    {
-        let Builders {
             by_path,
             by_component,
             extensions,
+            is_used,
         } = self;
+        if !is_used {
+            return Ok(None);
+        }
         let by_path = by_path.finish();
         let by_component = by_component.finish();
         let has_component = has_text(alloc, &by_component)?;
@@ -485,13 +410,14 @@ impl Builders {
             .state_count()
             .max(by_component.state_count())
             .max(extensions.max_states());
-        Ok(Automata {
+        let automata = Automata {
             by_path,
             by_component,
             extensions,
             max_states,
             has_component,
-        })
+        };
+        Ok(Some(Box::new(alloc, automata)?))
     }
 }
 

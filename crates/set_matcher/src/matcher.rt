@@ -347,7 +347,7 @@ impl SetMatcherBuilder {
             globs: GivenGlobs::new(),
             len: 0,
             keys: LiteralIndexBuilder::new(alloc),
-            automata: AutomataBuilder::new(count),
+            automata: AutomataBuilder::new(alloc, count),
         }
     }
 
@@ -392,7 +392,7 @@ impl SetMatcherBuilder {
             self.globs = GivenGlobs::new();
             self.len = 0;
             self.keys = LiteralIndexBuilder::new(self.alloc);
-            self.automata = AutomataBuilder::new(count);
+            self.automata = AutomataBuilder::new(self.alloc, count);
             return Err(error);
         }
         self.globs = self.globs.copy().and(text, options);

@@ -6,7 +6,7 @@ use Rattle.set_matcher.specs.declared.automata.Target.TheVariants.{Path, LastCom
 use Rattle.set_matcher.specs.inner.Automata.{AutomataParts}
 use Rattle.set_matcher.specs.inner.Builders.{AddsTo}
 use Rattle.set_matcher.proofs.lemmas.SetMatcher.{both_on_ok, three_on_ok}
-use Rattle.set_matcher.proofs.automata.Builders.add.Goals as goal
+use Rattle.set_matcher.proofs.automata.AutomataBuilder.add.Goals as goal
 
 pub returns-in-Path-clause-added : goal.returns-in-Path-clause-added
 returns-in-Path-clause-added c =
