@@ -61,14 +61,6 @@ bytes_taken (suc n) (c ∷ cs) h = (h.0, bytes_taken n cs h.1)
 pub before_bytes : (path : List ℕ) → AllBytes path → AllBytes (before_extension path)
 before_bytes path h = bytes_taken (length path - length (component_extension path)) path h
 
--- the visits of a run over it, within those of a run over the path
-pub before_visits : (path text : List ℕ) (n old new : ℕ) → text ≡ before_extension path → new ≤ old + (length text + 1) * n → new ≤ old + (length path + 1) * n
-before_visits path text n old new is few =
-    let long = ap length (extension_cut path) in
-    let parts = length-append (before_extension path) (component_extension path) in
-    let same = ap length is in
-    shorter_visits (length text) (length path) n old new (omega (arith, long, parts, same)) few
-
 -- ---- an automaton without states
 
 no_state : (k s : ℕ) (y : List ℕ) → state [] s ≡ union_state [] → Accepts [] k s y → ⊥

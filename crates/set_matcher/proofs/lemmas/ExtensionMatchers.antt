@@ -300,14 +300,6 @@ slot_reads_added mid new key s more d now is_mid at lt slots nfas few extension 
     let le = set_reads mid.nfas s more now (slot_of mid.slots extension) (bytes_eq key extension) lt within (λ e. (bytes_decides key extension).1 (is_mid.apart key extension s at e)) in
     omega (arith, is, le)
 
--- ---- the automaton of a slot
-
--- it is for the tokens of the extension
-pub slot_tokens : (nfas : List NfaValue) (tokens : ℕ → List IndexedTokens) (slots : List Entry) (extension : List ℕ) (s : ℕ) (m : NfaValue) → Some s ≡ slot_of slots extension
-    → s < length nfas → m ≡ get_or nfas s m → AreFor nfas tokens → IsFor m (tokens_under tokens slots extension)
-slot_tokens nfas tokens slots extension s m at lt is are =
-    subst (λ o. IsFor m (option_map_or tokens o [])) at (subst (λ x. IsFor x (tokens s)) (sym is) (are s m lt))
-
 -- ---- the largest automaton
 
 pub max_more : (ms : List NfaValue) (m : NfaValue) → max_size (ms ++ m ∷ []) ≡ max (size m) (max_size ms)

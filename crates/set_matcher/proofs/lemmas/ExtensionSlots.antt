@@ -1,7 +1,7 @@
 -- The slots of extensions in a map, once one more is added.
 use Rattle.std.proofs.Common.{◌≡◌, ℕ, Bool, true, false, List, [], ◌∷◌, ◌++◌, Some, None, Vec, Ordering, sym, ap, subst, ◌∙◌, ⊎_elim}
 use Rattle.std.specs.Cmp.Lexicographic.{bytes_decides, nat_list_eq_equiv, slice_cmp}
-use Rattle.std.specs.BTreeMap.{BTreeMap, IsEmpty, Updates}
+use Rattle.std.specs.BTreeMap.{BTreeMap, Updates}
 use Rattle.std.specs.Map.{lookup, IsKeyTest, AreApart, KeepsOthers}
 use Rattle.std.specs.Ordering.{is_eq, nat_cmp}
 use Rattle.std.specs.Str.{bytes_eq}
@@ -15,9 +15,6 @@ use Rattle.set_matcher.proofs.lemmas.Tables.{first_of_key}
 
 abbrev key_cmp : {X : Type 0} → Vec ℕ X → Vec ℕ X → Ordering
 key_cmp x y = slice_cmp nat_cmp x.items y.items
-
-pub slots_none : {X : Type 0} (m : BTreeMap (Vec ℕ X) ℕ) (es : List Entry) → IsEmpty m → es ≡ [] → HasSlots m es
-slots_none m es empty none = record { same = λ q. ap (lookup (λ k. is_eq (slice_cmp nat_cmp q k.items))) empty ∙ sym (ap (λ l. slot_of l q) none) }
 
 other_keys : {K X : Type 0} (eq : K → K → Bool) (test : K → Bool) (old new : List (K × X)) → KeepsOthers eq test old new →
     (other : K → Bool) → IsKeyTest eq other → AreApart test other → lookup other new ≡ lookup other old

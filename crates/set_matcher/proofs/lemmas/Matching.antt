@@ -7,12 +7,10 @@ use Rattle.std.proofs.Math.Logic.{⊎_elim}
 use Rattle.std.proofs.lemmas.Bool.{eqb-true, eq-eqb}
 use Rattle.std.proofs.lemmas.List.Sums.{sum_by-append}
 use Rattle.std.proofs.lemmas.Map.Steps.{le-length_from_below}
-use Rattle.bit_sets.specs.Indexes.{has_index, index_capacity}
-use Rattle.bit_sets.specs.declared.index_set.IndexSet.{IndexSet}
 use Rattle.set_matcher.specs.inner.TokenGlobs.{TokenGlob, is_reported, is_reported_at, reported_indexes}
 use Rattle.set_matcher.specs.Indexes.{ContainsAllBelow}
 use Rattle.glob_path.specs.LiteralIndex.{keys_found}
-use Rattle.set_matcher.specs.inner.Automata.{AreFound, AreIdle, AutomataParts, TokenLists}
+use Rattle.set_matcher.specs.inner.Automata.{AreFound, AreIdle}
 use Rattle.set_matcher.specs.inner.SetMatcher.{SetMatcherParts, IsSetMatcherOf, listed_count}
 use Rattle.set_matcher.proofs.lemmas.Indexes.{passing_is_contained, contained_passes, passes_within, all_pass}
 use Rattle.bit_sets.proofs.lemmas.Filters.{filter_same}
@@ -25,10 +23,6 @@ listed_in : (globs : List TokenGlob) (path : List ℕ) (k : ℕ) → Contains (r
 listed_in globs path k h = (contained_passes (λ g. is_reported g path) globs k h).1
 
 -- ---- all indexes
-
--- what automata find is marked, in a set with room for n indexes
-abbrev pub AreMarked : AutomataParts → TokenLists → List ℕ → ℕ → IndexSet → Type 0
-AreMarked a t path n marks = (n ≤ index_capacity marks) × ((k : ℕ) → IsTrue (has_index marks k) ↔ AreFound a.extensions.slots t path k)
 
 -- what automata found is marked, and then what keys find: these are the listed globs
 pub marked_listed : (globs : List TokenGlob) (g : SetMatcherParts) (path : List ℕ) (room : ℕ) (found has : ℕ → Bool) (are : IsSetMatcherOf globs g) → length globs ≤ room
