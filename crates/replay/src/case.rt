@@ -129,7 +129,13 @@ impl Globs {
         let mut alone = Globs::new(self.alloc);
         alone.push(read(self.alloc, columns)??)?;
         let answers = alone.path(columns, Asked::Path)?;
-        Ok(String::from_str(self.alloc, answer_of_one(answers.as_str()))?)
+        let answer = match answers.as_str() {
+            "0\tyes\t0" => "yes",
+            "-\tno\t-" => "no",
+            // The set's matcher says something else.
+            columns => columns,
+        };
+        Ok(String::from_str(self.alloc, answer)?)
     }
 
     /// Returns the set's answer about a path, and the indexes of the globs whose own matchers say yes. Sets and matchers under
@@ -190,9 +196,14 @@ impl Globs {
 
     /// Returns the offset of the error of a text, or `-` if the text is a glob. The error's copy must have the same offset.
     fn offset(&self, columns: &mut Columns<'_>) -> Result<String, Fault> {
-        match &read(self.alloc, columns)? {
-            Ok(_) => Ok(String::from_str(self.alloc, "-")?),
-            Err(error) => shown_offset(self.alloc, error),
+        let Err(error) = read(self.alloc, columns)? else {
+            return Ok(String::from_str(self.alloc, "-")?);
+        };
+        let copied = error.clone()?.offset();
+        match error.offset() {
+            Some(offset) if copied == Some(offset) => Ok(format!(in self.alloc; "{offset}")?),
+            Some(_) => Ok(String::from_str(self.alloc, "the copy has another offset")?),
+            None => Ok(String::from_str(self.alloc, "the error has no offset")?),
         }
     }
 
@@ -242,15 +253,6 @@ impl Globs {
         self.push_limited()?;
         self.globs.clear();
         Ok(())
-    }
-}
-
-/// Returns `yes` or `no` instead of the columns of a set with a single glob, or these columns where its matcher differs.
-fn answer_of_one(columns: &str) -> &str {
-    match columns {
-        "0\tyes\t0" => "yes",
-        "-\tno\t-" => "no",
-        _ => columns,
     }
 }
 
@@ -361,16 +363,6 @@ fn shown_error(alloc: Global, error: &Error) -> Result<String, Fault> {
     Ok(format!(in alloc; "fails\t{kind}\t{text}")?)
 }
 
-/// Returns the offset of an error.
-fn shown_offset(alloc: Global, error: &Error) -> Result<String, Fault> {
-    let copied = error.clone()?.offset();
-    match error.offset() {
-        Some(offset) if copied == Some(offset) => Ok(format!(in alloc; "{offset}")?),
-        Some(_) => Ok(String::from_str(alloc, "the copy has another offset")?),
-        None => Ok(String::from_str(alloc, "the error has no offset")?),
-    }
-}
-
 /// Returns `fails`, the index or `-`, and the text.
 fn shown_value_error(alloc: Global, error: &ValueError) -> Result<String, Fault> {
     let text = format!(in alloc; "{error}")?;
@@ -406,7 +398,8 @@ fn json(alloc: Global, columns: &mut Columns<'_>) -> Result<Value, Fault> {
 /// `backslash_escape` off.
 fn read(alloc: Global, columns: &mut Columns<'_>) -> Result<Result<Glob, Error>, Fault> {
     let options = columns.next()?;
-    if !are_options(options) {
+    let are_known = options.chars().all(|c| "iseubw".contains(c));
+    if options != "-" && (options.is_empty() || !are_known) {
         return Err(Fault::Row("an option is unknown"));
     }
     let text = unescaped_text(alloc, columns.next()?)?;
@@ -420,8 +413,4 @@ fn read(alloc: Global, columns: &mut Columns<'_>) -> Result<Result<Glob, Error>,
             .backslash_escape(!options.contains('b'))
             .build(alloc),
     )
-}
-
-fn are_options(options: &str) -> bool {
-    options == "-" || !options.is_empty() && options.chars().all(|c| "iseubw".contains(c))
 }

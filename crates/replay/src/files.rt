@@ -16,7 +16,8 @@ pub fn replay_files(rt: &HostRuntime) -> io::Result<ExitCode> {
     let mut passed = 0usize;
     let mut failed = 0usize;
     for file in env::args(rt)?.skip(1) {
-        let report = replay_file(rt, file.as_str())?;
+        let text = fs::read_to_string(rt, file.as_str())?;
+        let report = replay_text(rt, file.as_str(), text.as_str())?;
         passed = passed.saturating_add(report.passed);
         failed = failed.saturating_add(report.failures.len());
     }
@@ -28,11 +29,7 @@ pub fn replay_files(rt: &HostRuntime) -> io::Result<ExitCode> {
     }
 }
 
-/// Replays the rows of a file, and writes those that failed and how many passed and failed.
-fn replay_file(rt: &HostRuntime, file: &str) -> io::Result<Report> {
-    replay_text(rt, file, fs::read_to_string(rt, file)?.as_str())
-}
-
+/// Replays the rows of a file with this text, and writes those that failed and how many passed and failed.
 fn replay_text(rt: &HostRuntime, file: &str, text: &str) -> io::Result<Report> {
     let lines: Vec<&str> = text.lines().collect(rt.alloc())?;
     let report = replay(rt.alloc(), &lines)?;

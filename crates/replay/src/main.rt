@@ -23,17 +23,10 @@ use std::process::ExitCode;
 use std::{env, io};
 
 fn main(rt: HostRuntime) -> io::Result<ExitCode> {
-    if has_to_measure(&rt)? {
+    let first = env::args(&rt)?.skip(1).next();
+    if first.is_some_and(|word| word.as_str() == "--measure") {
         Ok(measure_calls(&rt))
     } else {
         replay_files(&rt)
-    }
-}
-
-/// Returns whether the first argument is `--measure`.
-fn has_to_measure(rt: &HostRuntime) -> io::Result<bool> {
-    match env::args(rt)?.skip(1).next() {
-        Some(word) => Ok(word.as_str() == "--measure"),
-        None => Ok(false),
     }
 }

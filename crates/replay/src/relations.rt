@@ -18,8 +18,7 @@ const LIMIT: usize = 100_000;
 /// they miss.
 pub fn covered(alloc: Global, globs: &[Glob], columns: &mut Columns<'_>) -> Result<String, Fault> {
     let domain = read_domain(columns)?;
-    let index = read_index(columns)?;
-    let glob = glob_at(globs, index)?;
+    let (index, glob) = read_glob(globs, columns)?;
     let others = others_than(alloc, globs, index)?;
     match missed(alloc, glob, &others, domain)? {
         None => Ok(String::from_str(alloc, "yes")?),
@@ -34,8 +33,8 @@ pub fn overlapping(
     columns: &mut Columns<'_>,
 ) -> Result<String, Fault> {
     let domain = read_domain(columns)?;
-    let a = glob_at(globs, read_index(columns)?)?;
-    let b = glob_at(globs, read_index(columns)?)?;
+    let (_, a) = read_glob(globs, columns)?;
+    let (_, b) = read_glob(globs, columns)?;
     match shared(alloc, a, b, domain)? {
         None => Ok(String::from_str(alloc, "no")?),
         Some(path) => Ok(format!(in alloc; "yes\t{}", path.len())?),
@@ -84,16 +83,13 @@ fn read_domain(columns: &mut Columns<'_>) -> Result<Domain, Fault> {
     }
 }
 
-fn read_index(columns: &mut Columns<'_>) -> Result<usize, Fault> {
-    match columns.next()?.parse::<usize>() {
-        Ok(index) => Ok(index),
-        Err(_) => Err(Fault::Row("an index is not a number")),
-    }
-}
-
-fn glob_at(globs: &[Glob], index: usize) -> Result<&Glob, Fault> {
+/// Returns the index of the next column, and the glob that has it.
+fn read_glob<'g>(globs: &'g [Glob], columns: &mut Columns<'_>) -> Result<(usize, &'g Glob), Fault> {
+    let Ok(index) = columns.next()?.parse::<usize>() else {
+        return Err(Fault::Row("an index is not a number"));
+    };
     match globs.get(index) {
-        Some(glob) => Ok(glob),
+        Some(glob) => Ok((index, glob)),
         None => Err(Fault::Row("no glob has this index")),
     }
 }

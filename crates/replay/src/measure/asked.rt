@@ -93,7 +93,7 @@ pub fn add_rounds<A: Asked>(
 ) -> Result<()>
     requires { 0 < piece }
 {
-    for _ in 0..measured.rounds() {
+    for _ in 0..measured.limits.rounds {
         for some in paths.chunks(piece) {
             if measured.is_enough() {
                 return Ok(());

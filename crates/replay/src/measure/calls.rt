@@ -27,13 +27,20 @@ impl Job<'_> {
     pub fn run(&self, call: &str) -> Result<()> {
         match call {
             "is_match" => self.ask(call, self.set()?),
-            "matches" => self.ask(call, self.indexes()?),
+            "matches" => {
+                let set = self.set()?;
+                let into = Vec::new(self.rt.alloc());
+                self.ask(call, Indexes { set, into })
+            }
             "matcher" => self.ask(call, self.matchers()?),
-            "searcher" => self.ask(call, self.searcher()?),
+            "searcher" => self.ask(call, Searcher::new(self.rt.alloc(), &self.set()?)?),
             "read" => self.reading(call),
             "make" => self.make(call, &Sets),
             "make_searcher" => self.make(call, &Searchers),
-            "make_and_ask" => self.asked_sets(call),
+            "make_and_ask" => {
+                let path = self.paths.first().copied().unwrap_or("");
+                self.make(call, &AskedSets { path })
+            }
             _ => Err(anyhow!("a call is unknown")),
         }
     }
@@ -42,28 +49,12 @@ impl Job<'_> {
         Ok(GlobSet::new(self.rt.alloc(), &read(self.rt.alloc(), self.globs)?)?)
     }
 
-    fn indexes(&self) -> Result<Indexes> {
-        Ok(Indexes {
-            set: self.set()?,
-            into: Vec::new(self.rt.alloc()),
-        })
-    }
-
     fn matchers(&self) -> Result<Vec<GlobMatcher>> {
         let mut matchers = Vec::new(self.rt.alloc());
         for text in self.globs {
             matchers.push(text.read(self.rt.alloc())?.compile_matcher()?)?;
         }
         Ok(matchers)
-    }
-
-    fn searcher(&self) -> Result<Searcher> {
-        Ok(Searcher::new(self.rt.alloc(), &self.set()?)?)
-    }
-
-    fn asked_sets(&self, call: &str) -> Result<()> {
-        let path = self.paths.first().copied().unwrap_or("");
-        self.make(call, &AskedSets { path })
     }
 
     /// Asks about each of the paths.

@@ -30,7 +30,7 @@ pub fn add_reading(
 ) -> Result<()> {
     let times = GLOBS.div_ceil(texts.len().max(1));
     let mut globs = Vec::with_capacity(alloc, texts.len().saturating_mul(times))?;
-    for _ in 0..measured.rounds() {
+    for _ in 0..measured.limits.rounds {
         if measured.is_enough() {
             return Ok(());
         }
@@ -105,7 +105,7 @@ pub fn add_making<M: Making>(
 ) -> Result<()> {
     let mut made = Vec::with_capacity(alloc, BATCH)?;
     let mut count = 1;
-    for _ in 0..measured.rounds() {
+    for _ in 0..measured.limits.rounds {
         if measured.is_enough() {
             return Ok(());
         }
@@ -115,8 +115,7 @@ pub fn add_making<M: Making>(
         }
         measured.stop(start, count, globs.len())?;
         made.clear();
-        if count == 1 && measured.last_nanos() <= SMALL {
-            measured.forget();
+        if count == 1 && measured.forget_small(SMALL) {
             count = BATCH;
         }
     }

@@ -32,19 +32,11 @@ struct Piece {
     nanos: u64,
 }
 
-impl Piece {
-    fn add(&mut self, other: Piece) {
-        self.calls = self.calls.saturating_add(other.calls);
-        self.found = self.found.saturating_add(other.found);
-        self.nanos = self.nanos.saturating_add(other.nanos);
-    }
-}
-
 /// The measured pieces of a call, in order.
 #[derive(Drop)]
 pub struct Measured<'a> {
     rt: &'a HostRuntime,
-    limits: Limits,
+    pub limits: Limits,
     pieces: Vec<Piece>,
     nanos: u64,
 }
@@ -57,11 +49,6 @@ impl<'a> Measured<'a> {
             pieces: Vec::new(rt.alloc()),
             nanos: 0,
         }
-    }
-
-    /// Returns how many rounds there may be.
-    pub fn rounds(&self) -> usize {
-        self.limits.rounds
     }
 
     /// Returns the processor time so far, to be handed to [`Measured::stop`].
@@ -87,14 +74,14 @@ impl<'a> Measured<'a> {
         self.nanos >= self.limits.nanos
     }
 
-    /// Returns the nanoseconds of the last piece, or 0 if there was none.
-    pub fn last_nanos(&self) -> u64 {
-        self.pieces.last().map_or(0, |piece| piece.nanos)
-    }
-
-    /// Forgets the pieces so far, and not the time that they took.
-    pub fn forget(&mut self) {
-        self.pieces.clear();
+    /// Forgets the pieces so far, and not the time that they took, if the last took at most so many nanoseconds. Returns whether it
+    /// did.
+    pub fn forget_small(&mut self, nanos: u64) -> bool {
+        let is_small = self.pieces.last().is_none_or(|piece| piece.nanos <= nanos);
+        if is_small {
+            self.pieces.clear();
+        }
+        is_small
     }
 
     /// Writes the columns of a call. First come the matches of the first piece, and the matches of the `pieces_of_round` pieces
@@ -104,7 +91,12 @@ impl<'a> Measured<'a> {
         let first = self.pieces.first().copied().unwrap_or_default();
         let half = self.pieces.len() / 2;
         let late = sum(self.pieces.get(half..).unwrap_or(&[]));
-        let least = self.least(first);
+        let mut least = first;
+        for piece in &self.pieces {
+            if piece.calls == first.calls && piece.nanos < least.nanos {
+                least = *piece;
+            }
+        }
         print!(self.rt; "{call}\t{}\t", first.found)?;
         match self.pieces.get(1..).unwrap_or(&[]).get(..pieces_of_round) {
             Some(pieces) => print!(self.rt; "{}", sum(pieces).found)?,
@@ -116,23 +108,14 @@ impl<'a> Measured<'a> {
         )?;
         Ok(())
     }
-
-    /// Returns the fastest of the pieces that have as many calls as the first.
-    fn least(&self, first: Piece) -> Piece {
-        let mut least = first;
-        for piece in &self.pieces {
-            if piece.calls == first.calls && piece.nanos < least.nanos {
-                least = *piece;
-            }
-        }
-        least
-    }
 }
 
 fn sum(pieces: &[Piece]) -> Piece {
     let mut sum = Piece::default();
     for piece in pieces {
-        sum.add(*piece);
+        sum.calls = sum.calls.saturating_add(piece.calls);
+        sum.found = sum.found.saturating_add(piece.found);
+        sum.nanos = sum.nanos.saturating_add(piece.nanos);
     }
     sum
 }
