@@ -221,13 +221,23 @@ class Pattern(NamedTuple):
 
 
 @lru_cache(maxsize=100_000)
+def read_line(line, ignore_case):
+    """Returns the pattern of a line, or None if it has none. Fails if git cannot read it."""
+    text = line_text(line)
+    return None if text.startswith(b"#") else pattern_of_text(text, ignore_case)
+
+
+def is_readable(line):
+    try:
+        read_line(line, False)
+        return True
+    except Unreadable:
+        return False
+
+
 def pattern_of_line(line, ignore_case):
     """Returns the pattern of a line, or None: then the line matches nothing."""
-    try:
-        text = line_text(line)
-        return None if text.startswith(b"#") else pattern_of_text(text, ignore_case)
-    except Unreadable:
-        return None
+    return read_line(line, ignore_case) if is_readable(line) else None
 
 
 def pattern_of_text(text, ignore_case):

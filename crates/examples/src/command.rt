@@ -1,6 +1,7 @@
 //! A command: how it is called, how it ends, and the texts of its errors.
 
-use std::alloc::{AllocError, AllocFailed, Global};
+use crate::streams::print_text;
+use std::alloc::Global;
 use std::fmt::{self, Display};
 use std::io;
 use std::process::ExitCode;
@@ -15,8 +16,12 @@ pub struct Command {
 }
 
 impl Command {
-    /// Returns the exit status of a run that ended so. Writes the text of an error to standard error before.
+    /// Returns the exit status of a run that ended so. It prints the help if that was asked for, or the text of an error.
     pub fn end(&self, rt: &HostRuntime, ended: Result<ExitCode, Fault>) -> ExitCode {
+        let ended = match ended {
+            Err(Fault::Help) => print_text(rt, self.help),
+            ended => ended,
+        };
         match ended {
             Ok(status) => status,
             Err(fault) => {
@@ -35,41 +40,40 @@ impl Command {
     }
 }
 
-/// Returns whether an argument is a request for help.
-pub fn asks_for_help(argument: &String) -> bool {
-    matches!(argument.as_str(), "-h" | "--help")
+/// Returns the name of a file, if it is the only argument.
+pub fn only_name(arguments: &[String]) -> Result<&str, Fault> {
+    match arguments {
+        [argument] if matches!(argument.as_str(), "-h" | "--help") => Err(Fault::Help),
+        [name] => Ok(name.as_str()),
+        _ => Err(Fault::Usage),
+    }
 }
 
 /// Why a command ends early. It is printed without the command's name.
 #[derive(Drop)]
 pub enum Fault {
+    /// The help is asked for.
+    Help,
     /// The arguments are not as the usage has them.
     Usage,
     /// The arguments cannot be read, for example since an argument is not UTF-8.
     Arguments(io::Error),
     /// What is wrong with a file, or with a line of it.
     Text(String),
-    /// A glob of the command line is none, or memory ran out for globs.
+    /// A glob of the command line is none, or memory ran out.
     Glob(globset::Error),
     /// Standard input cannot be read.
     Input(io::Error),
     /// Standard output cannot be written.
     Output(io::Error),
-    /// Memory ran out.
-    OutOfMemory,
 }
 
 impl Fault {
     /// Returns the error of a file that cannot be read.
     pub fn file(alloc: Global, name: &str, error: io::Error) -> Fault {
-        Fault::text(format!(in alloc; "{}: {error}", Shown(name.as_bytes())))
-    }
-
-    /// Returns the error with this text. If there is no memory for the text, returns the error that memory ran out.
-    pub fn text(text: Result<String, AllocError>) -> Fault {
-        match text {
+        match format!(in alloc; "{}: {error}", Shown(name.as_bytes())) {
             Ok(text) => Fault::Text(text),
-            Err(_) => Fault::OutOfMemory,
+            Err(error) => Fault::from(error),
         }
     }
 }
@@ -77,32 +81,19 @@ impl Fault {
 impl fmt::Display for Fault {
     fn fmt<W: fmt::Write>(&self, f: &mut fmt::Formatter<W>) -> fmt::Result {
         match self {
-            Fault::Usage => f.write_str("wrong usage"),
+            Fault::Help | Fault::Usage => f.write_str("wrong usage"),
             Fault::Arguments(error) => write!(f, "arguments: {error}"),
             Fault::Text(text) => f.write_str(text.as_str()),
             Fault::Glob(error) => error.fmt(f),
             Fault::Input(error) => write!(f, "standard input: {error}"),
             Fault::Output(error) => write!(f, "standard output: {error}"),
-            Fault::OutOfMemory => f.write_str("out of memory"),
         }
     }
 }
 
-impl From<globset::Error> for Fault {
-    fn from(error: globset::Error) -> Fault {
-        Fault::Glob(error)
-    }
-}
-
-impl From<AllocError> for Fault {
-    fn from(_error: AllocError) -> Fault {
-        Fault::OutOfMemory
-    }
-}
-
-impl<T: Drop> From<AllocFailed<T>> for Fault {
-    fn from(_error: AllocFailed<T>) -> Fault {
-        Fault::OutOfMemory
+impl<E: Into<globset::Error>> From<E> for Fault {
+    fn from(error: E) -> Fault {
+        Fault::Glob(error.into())
     }
 }
 
@@ -113,21 +104,15 @@ pub struct Shown<'a>(pub &'a [u8]);
 impl Display for Shown<'_> {
     fn fmt<W: fmt::Write>(&self, f: &mut fmt::Formatter<W>) -> fmt::Result {
         for chunk in self.0.utf8_chunks() {
-            write_text(f, chunk.valid())?;
+            for character in chunk.valid().chars() {
+                if character.is_control() {
+                    character.escape_default().fmt(f)?;
+                } else {
+                    f.write_char(character)?;
+                }
+            }
             chunk.invalid().escape_ascii().fmt(f)?;
         }
         Ok(())
     }
-}
-
-/// Writes text with its control characters escaped.
-fn write_text<W: fmt::Write>(f: &mut fmt::Formatter<W>, text: &str) -> fmt::Result {
-    for character in text.chars() {
-        if character.is_control() {
-            character.escape_default().fmt(f)?;
-        } else {
-            f.write_char(character)?;
-        }
-    }
-    Ok(())
 }

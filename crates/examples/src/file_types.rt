@@ -1,17 +1,13 @@
 //! The command `file_types` prints the types of the paths of its input, by a table of types.
 //!
-//! The argument names the table. Each line of standard input is a path. It is printed with a tab and its types, in the order of
-//! the table and separated by `,`, or `-` if it has none.
-//!
-//! A line of the table is the name of a type, a colon, and globs that are separated by a comma and a space, as in `make:
-//! [Mm]akefile, *.mk`. Blank lines, and those that begin with `#`, are skipped. A path has a type if any glob of the type matches
-//! the last component of the path. `{c,h}` has no space, so it is a single glob.
+//! A line of the table is the name of a type, a colon, and globs that are separated by a comma and a space. Blank lines, and
+//! those that begin with `#`, are skipped. A path has a type if any glob of the type matches the last component of the path.
 
-use crate::command::{Command, Fault, asks_for_help};
+use crate::command::{Command, Fault, only_name};
 use crate::labels::Labels;
-use crate::streams::{Output, print_text, read_input};
+use crate::streams::{print, push, read_input};
 use crate::text_file::{Lines, TextFile};
-use globset::{Candidate, Error, Glob};
+use globset::{Candidate, Glob};
 use std::alloc::{AllocError, Global};
 use std::process::ExitCode;
 
@@ -24,43 +20,27 @@ Each line of standard input is a path. It is written to standard output with a t
 The exit status is 0, or 2 after an error, whose text is written to standard error.",
 };
 
-/// Prints each path with its types, or the help, and returns the exit status.
+/// Prints each path with its types, and returns the exit status.
 pub fn run(rt: &HostRuntime, arguments: &[String]) -> Result<ExitCode, Fault> {
-    match arguments {
-        [argument] if asks_for_help(argument) => print_text(rt, COMMAND.help),
-        [name] => print_types(rt, &TextFile::read(rt, name.as_str())?),
-        _ => Err(Fault::Usage),
-    }
-}
-
-/// Prints each path with its types, by the table of the file.
-fn print_types(rt: &HostRuntime, file: &TextFile) -> Result<ExitCode, Fault> {
-    let table = read_table(rt.alloc(), file)?;
+    let file = TextFile::read(rt, only_name(arguments)?)?;
+    let table = read_table(rt.alloc(), &file)?;
     let mut searcher = table.searcher(rt.alloc())?;
     let input = read_input(rt)?;
-    let mut output = Output::new(rt.alloc());
+    let mut output = Vec::new(rt.alloc());
     for path in Lines::new(&input, b'\n') {
-        let found = searcher.matches(&Candidate::from_bytes(last_component(path)));
-        let types = joined(rt.alloc(), table.labels(), found)?;
-        output.push_line(&[path, b"\t", types.as_bytes()])?;
+        let name = path.rsplit(|byte| *byte == b'/').next().unwrap_or(path);
+        let found = searcher.matches(&Candidate::from_bytes(name));
+        let types = joined(rt.alloc(), &table.labels, found)?;
+        push(&mut output, &[path, b"\t", types.as_bytes(), b"\n"])?;
     }
-    output.write(rt)
-}
-
-/// Returns the bytes after the last `/` of a path, or the whole path if it has none.
-fn last_component(path: &[u8]) -> &[u8] {
-    path.rsplit(|byte| *byte == b'/').next().unwrap_or(path)
+    print(rt, &output)
 }
 
 /// Returns the names at these indexes, each once and separated by `,`, or `-` if there are none. Equal names have adjacent
 /// indexes.
 fn joined(alloc: Global, names: &[&str], indexes: &[usize]) -> Result<String, AllocError> {
-    let mut found = Vec::new(alloc);
-    for index in indexes {
-        if let Some(name) = names.get(*index) {
-            found.push(*name)?;
-        }
-    }
+    let found = indexes.iter().filter_map(|it| names.get(*it).copied());
+    let mut found: Vec<&str> = found.collect(alloc)?;
     found.dedup();
     if found.is_empty() {
         return String::from_str(alloc, "-");
@@ -89,27 +69,18 @@ fn push_line<'t>(
     line: &'t str,
 ) -> Result<(), Fault> {
     let Some((name, list)) = line.split_once(':') else {
-        return Err(file.fault(alloc, number, line.as_bytes(), "this line has no colon"));
+        return file.fail(alloc, number, line.as_bytes(), "this line has no colon");
     };
-    if table.labels().contains(&name) {
+    if table.labels.contains(&name) {
         let reason = "this type has a line already";
-        return Err(file.fault(alloc, number, name.as_bytes(), reason));
+        return file.fail(alloc, number, name.as_bytes(), reason);
     }
     for glob in list.split(", ") {
-        let glob = glob.trim();
-        if let Err(error) = push_glob(alloc, table, glob, name) {
-            return Err(file.fault(alloc, number, glob.as_bytes(), error.kind()));
+        let text = glob.trim();
+        match Glob::new(alloc, text) {
+            Ok(glob) => table.push(glob, name)?,
+            Err(error) => return file.fail(alloc, number, text.as_bytes(), error.kind()),
         }
     }
     Ok(())
-}
-
-/// Adds a glob of a type. Fails if it cannot be read.
-fn push_glob<'t>(
-    alloc: Global,
-    table: &mut Labels<'t>,
-    glob: &str,
-    name: &'t str,
-) -> Result<(), Error> {
-    table.push(Glob::new(alloc, glob)?, name)
 }

@@ -1,19 +1,12 @@
 //! The command `find_files` prints the paths of the files below a directory that some glob matches.
-//!
-//! A path is from the directory on, without the directory and its `/`. The paths come in the order of their bytes. A directory
-//! is opened only if a path below it can match.
 
 mod arguments;
-mod globs;
 mod ignored;
 mod walk;
 
 use crate::command::{Command, Fault};
 use crate::streams::print_text;
-use crate::text_file::TextFile;
 use arguments::Arguments;
-use globs::read_globs;
-use ignored::Ignored;
 use std::process::ExitCode;
 use walk::Walk;
 
@@ -47,22 +40,10 @@ const VERSION: &str = "find_files 0.4.21";
 pub fn run(rt: &HostRuntime, arguments: &[String]) -> Result<ExitCode, Fault> {
     let arguments = Arguments::read(rt.alloc(), arguments)?;
     if arguments.flags.help {
-        print_text(rt, COMMAND.help)
+        Err(Fault::Help)
     } else if arguments.flags.version {
         print_text(rt, VERSION)
     } else {
-        search(rt, &arguments)
+        Walk::new(rt, &arguments)?.run(rt)
     }
-}
-
-/// Prints the paths that match, and returns the exit status.
-fn search(rt: &HostRuntime, arguments: &Arguments<'_>) -> Result<ExitCode, Fault> {
-    let globs = read_globs(rt, arguments)?;
-    let mut ignored = Ignored::new(rt.alloc(), arguments.flags.ignored);
-    for name in &arguments.excludes {
-        ignored.add_excludes(TextFile::read(rt, name)?.bytes())?;
-    }
-    let folder = arguments.folder();
-    let mut walk = Walk::new(rt.alloc(), folder, globs, ignored, arguments.flags)?;
-    walk.run(rt)
 }

@@ -7,7 +7,8 @@ use std::alloc::Global;
 #[derive(Drop)]
 pub struct Labels<'t> {
     globs: GlobSetBuilder,
-    labels: Vec<&'t str>,
+    /// By the indexes of the globs.
+    pub labels: Vec<&'t str>,
 }
 
 impl<'t> Labels<'t> {
@@ -22,13 +23,7 @@ impl<'t> Labels<'t> {
     /// Adds a glob and its label.
     pub fn push(&mut self, glob: Glob, label: &'t str) -> Result<(), Error> {
         self.globs.push(glob)?;
-        self.labels.push(label)?;
-        Ok(())
-    }
-
-    /// Returns the globs' labels, by their indexes.
-    pub fn labels(&self) -> &[&'t str] {
-        &self.labels
+        Ok(self.labels.push(label)?)
     }
 
     /// Returns the globs as a set, with all the memory that they are matched with.

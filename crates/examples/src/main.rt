@@ -1,13 +1,5 @@
-//! `examples` is a program of several examples, each a command: programs over the libraries look like this.
-//!
-//! - `file_types` prints the types of paths, by a table of globs.
-//! - `owners` prints the owners of paths, by an owners file.
-//! - `check` prints the rules of an owners file that never decide.
-//! - `ignore_lines` prints the paths that an ignore file does not ignore.
-//! - `find_files` prints the paths of the files below a directory that its globs match.
-//!
-//! The first argument names the command, and the module of that name does it with the others. The text of an error goes to
-//! standard error, and begins with the name of the command.
+//! `examples` is a program of several examples, each a command: programs over the libraries look like this. The first argument
+//! names the command, and the module of that name does it with the others.
 //!
 //! The runtime has its own type everywhere, since a type parameter for it doubles the proofs of the walk.
 #![tactic(auto)]
@@ -26,7 +18,6 @@ mod text_file;
 use command::{Command, Fault};
 use std::env;
 use std::process::ExitCode;
-use streams::print_text;
 
 const PROGRAM: Command = Command {
     name: "examples",
@@ -50,10 +41,8 @@ fn main(rt: HostRuntime) -> ExitCode {
 
 /// Returns the arguments without the program's name. Fails if an argument is not UTF-8.
 fn read_arguments(rt: &HostRuntime) -> Result<Vec<String>, Fault> {
-    match env::args(rt) {
-        Ok(given) => Ok(given.skip(1).collect(rt.alloc())?),
-        Err(error) => Err(Fault::Arguments(error)),
-    }
+    let given = env::args(rt).map_err(Fault::Arguments)?;
+    Ok(given.skip(1).collect(rt.alloc())?)
 }
 
 /// Executes the arguments, and returns the exit status.
@@ -67,7 +56,7 @@ fn run(rt: &HostRuntime, arguments: &[String]) -> ExitCode {
         "check" => check::COMMAND.end(rt, check::run(rt, rest)),
         "ignore_lines" => ignore_lines::COMMAND.end(rt, ignore_lines::run(rt, rest)),
         "find_files" => find_files::COMMAND.end(rt, find_files::run(rt, rest)),
-        "-h" | "--help" => PROGRAM.end(rt, print_text(rt, PROGRAM.help)),
+        "-h" | "--help" => PROGRAM.end(rt, Err(Fault::Help)),
         _ => PROGRAM.end(rt, Err(Fault::Usage)),
     }
 }

@@ -45,9 +45,17 @@ impl<'t> OwnerRule<'t> {
         if path.is_empty() {
             return Ok(globs);
         }
-        for end in ends_of(self.pattern) {
-            let glob = format!(in alloc; "{depth}{path}{end}")?;
-            globs.push(glob_of(alloc, glob.as_str())?)?;
+        let ends: &[&str] = match self.pattern.as_bytes() {
+            [.., b'/', b'*'] => &[""],
+            [.., b'/'] => &["/**"],
+            _ => &["", "/**"],
+        };
+        for end in ends {
+            let text = format!(in alloc; "{depth}{path}{end}")?;
+            let glob = GlobBuilder::new(text.as_str())
+                .literal_separator(true)
+                .build(alloc)?;
+            globs.push(glob)?;
         }
         Ok(globs)
     }
@@ -64,21 +72,5 @@ impl<'t> OwnerRule<'t> {
         let (depth, _path) = self.depth_and_path();
         let slash = if self.pattern.starts_with('/') { 1 } else { 0 };
         offset.saturating_sub(depth.len()).saturating_add(slash)
-    }
-}
-
-/// Returns a glob whose `*` and `?` do not match `/`.
-fn glob_of(alloc: Global, text: &str) -> Result<Glob, Error> {
-    GlobBuilder::new(text).literal_separator(true).build(alloc)
-}
-
-/// Returns what follows the path of a pattern in its globs.
-fn ends_of(pattern: &str) -> &'static [&'static str] {
-    if pattern.ends_with("/*") {
-        &[""]
-    } else if pattern.ends_with('/') {
-        &["/**"]
-    } else {
-        &["", "/**"]
     }
 }

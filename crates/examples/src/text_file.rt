@@ -15,39 +15,23 @@ const BYTE_ORDER_MARK: &[u8] = b"\xef\xbb\xbf";
 /// A file, and its name.
 #[derive(Drop)]
 pub struct TextFile {
-    name: String,
-    bytes: Vec<u8>,
+    /// Its name, as it was given.
+    pub name: String,
+    pub bytes: Vec<u8>,
 }
 
 impl TextFile {
     /// Reads a file. Fails if it cannot be read.
     pub fn read(rt: &HostRuntime, name: &str) -> Result<TextFile, Fault> {
-        match fs::read(rt, name) {
-            Ok(bytes) => Ok(TextFile {
-                name: String::from_str(rt.alloc(), name)?,
-                bytes,
-            }),
-            Err(error) => Err(Fault::file(rt.alloc(), name, error)),
-        }
-    }
-
-    /// Returns its name, as it was given.
-    pub fn name(&self) -> &str {
-        self.name.as_str()
+        let bytes = fs::read(rt, name).map_err(|error| Fault::file(rt.alloc(), name, error))?;
+        let name = String::from_str(rt.alloc(), name)?;
+        Ok(TextFile { name, bytes })
     }
 
     /// Returns the directory in its name: empty, or with `/` at its end.
     pub fn folder(&self) -> &[u8] {
-        let name = self.name().as_bytes();
-        match memrchr(b'/', name) {
-            Some(end) => &name[..end + 1],
-            None => &[],
-        }
-    }
-
-    /// Returns its bytes.
-    pub fn bytes(&self) -> &[u8] {
-        &self.bytes
+        let name = self.name.as_bytes();
+        &name[..memrchr(b'/', name).map_or(0, |at| at + 1)]
     }
 
     /// Returns its bytes without a byte order mark at the start.
@@ -63,31 +47,28 @@ impl TextFile {
         for line in Lines::new(self.text(), b'\n') {
             match str::from_utf8(line) {
                 Ok(text) => lines.push(text.strip_suffix('\r').unwrap_or(text))?,
-                Err(_) => return Err(self.fault(alloc, lines.len() + 1, line, "not UTF-8")),
+                Err(_) => return self.fail(alloc, lines.len() + 1, line, "not UTF-8"),
             }
         }
         Ok(lines)
     }
 
     /// Returns the error of a line: its number, counted from 1, the wrong part of its text, and the reason.
-    pub fn fault(
+    pub fn fail<T>(
         &self,
         alloc: Global,
         number: usize,
         text: &[u8],
         reason: impl Display + Drop,
-    ) -> Fault {
-        let Ok(reason) = reason.to_string(alloc) else {
-            return Fault::OutOfMemory;
-        };
+    ) -> Result<T, Fault> {
+        let reason = reason.to_string(alloc)?;
         let file = Shown(self.name.as_bytes());
         let (text, reason) = (Shown(text), Shown(reason.as_bytes()));
-        Fault::text(format!(in alloc; "{file}: line {number}: {text}: {reason}"))
+        Err(Fault::Text(format!(in alloc; "{file}: line {number}: {text}: {reason}")?))
     }
 }
 
-/// An iterator over lines without the byte that ends them, mostly LF. A rest after the last such byte is a line too, unless it is
-/// empty.
+/// An iterator over lines without the byte that ends each. A rest after the last of these is a line too, unless it is empty.
 #[derive(Drop)]
 pub struct Lines<'a> {
     rest: &'a [u8],

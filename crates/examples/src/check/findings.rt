@@ -3,7 +3,7 @@
 use super::relations::common;
 use super::rules::Rules;
 use crate::command::{Fault, Shown};
-use crate::streams::Output;
+use crate::streams::{print, push};
 use crate::text_file::TextFile;
 use glob_relations::{Intersection, RuleReachability};
 use std::alloc::{AllocError, Global};
@@ -23,15 +23,16 @@ pub struct RuleLine<'t> {
 #[derive(Drop)]
 pub struct Findings<'a> {
     file: &'a str,
-    output: Output,
+    /// Each with the number of the line that it is about.
+    lines: Vec<(usize, String)>,
 }
 
 impl<'a> Findings<'a> {
     /// Returns no findings about a file.
     pub fn new(alloc: Global, file: &'a TextFile) -> Findings<'a> {
         Findings {
-            file: file.name(),
-            output: Output::new(alloc),
+            file: file.name.as_str(),
+            lines: Vec::new(alloc),
         }
     }
 
@@ -41,17 +42,21 @@ impl<'a> Findings<'a> {
         alloc: Global,
         rules: &[RuleLine<'_>],
         found: &[RuleReachability],
-    ) -> Result<(), Fault> {
+    ) -> Result<(), AllocError> {
         for (rule, found) in rules.iter().zip(found) {
             match found {
                 RuleReachability::Decides(_) => {}
                 RuleReachability::Never(by) => {
-                    let numbers = numbers(alloc, rules, by)?;
+                    let numbers = by.iter().filter_map(|it| Some(rules.get(*it)?.number));
+                    let mut numbers: Vec<usize> = numbers.collect(alloc)?;
+                    numbers.sort_unstable();
                     self.push(alloc, *rule, "never decides: ", Covering(&numbers))?;
                 }
                 RuleReachability::Hidden(by) => {
-                    let numbers = numbers(alloc, rules, &[*by])?;
-                    self.push(alloc, *rule, "never decides: ", Hiding(&numbers))?;
+                    let relation =
+                        "never decides: its paths lie in ignored directories, as by line ";
+                    let number = rules.get(*by).map_or(0, |it| it.number);
+                    self.push(alloc, *rule, relation, number)?;
                 }
                 RuleReachability::Unknown => {
                     self.push(alloc, *rule, "may never decide: ", "unknown")?;
@@ -65,53 +70,42 @@ impl<'a> Findings<'a> {
     pub fn push_overlaps(&mut self, alloc: Global, rules: &Rules<'_>) -> Result<(), Fault> {
         for (i, rule) in rules.lines.iter().enumerate() {
             for (j, later) in rules.lines.iter().enumerate().skip(i + 1) {
-                let found = common(alloc, rules, i, j)?;
-                self.push_overlap(alloc, *rule, *later, found)?;
+                let (relation, path) = match common(alloc, rules, i, j)? {
+                    Intersection::Disjoint => continue,
+                    Intersection::Both(path) => ("overlaps ", path),
+                    Intersection::Unknown => ("may overlap ", b"unknown".to_vec(alloc)?),
+                };
+                let (text, path) = (Shown(later.text), Shown(&path));
+                let pair = format!(in alloc; "line {}, {text}: {path}", later.number)?;
+                self.push(alloc, *rule, relation, pair.as_str())?;
             }
         }
         Ok(())
     }
 
-    /// Adds a pair of rules if they match a path in common, or may.
-    fn push_overlap(
-        &mut self,
-        alloc: Global,
-        rule: RuleLine<'_>,
-        later: RuleLine<'_>,
-        found: Intersection,
-    ) -> Result<(), Fault> {
-        let (relation, path) = match found {
-            Intersection::Disjoint => return Ok(()),
-            Intersection::Both(path) => ("overlaps ", path),
-            Intersection::Unknown => ("may overlap ", b"unknown".to_vec(alloc)?),
-        };
-        let (text, path) = (Shown(later.text), Shown(&path));
-        let pair = format!(in alloc; "line {}, {text}: {path}", later.number)?;
-        self.push(alloc, rule, relation, pair.as_str())
-    }
-
     /// Adds a line about a rule.
-    fn push(
+    pub fn push(
         &mut self,
         alloc: Global,
         rule: RuleLine<'_>,
         relation: &str,
         what: impl fmt::Display + Drop,
-    ) -> Result<(), Fault> {
+    ) -> Result<(), AllocError> {
         let (file, text) = (Shown(self.file.as_bytes()), Shown(rule.text));
-        let line = format!(in alloc; "{file}:{}: {text} {relation}{what}", rule.number)?;
-        self.output.push_line(&[line.as_bytes()])?;
-        Ok(())
+        let line = format!(in alloc; "{file}:{}: {text} {relation}{what}\n", rule.number)?;
+        Ok(self.lines.push((rule.number, line))?)
     }
 
-    /// Writes the lines to standard output. Returns the exit status 0 if there are none, or else 1.
-    pub fn write(&self, rt: &HostRuntime) -> Result<ExitCode, Fault> {
-        let status = self.output.write(rt)?;
-        Ok(if self.output.is_empty() {
-            status
-        } else {
-            ExitCode::from(1)
-        })
+    /// Writes the findings to standard output, in the order of the lines that they are about. Returns the exit status 0 if there
+    /// are none, or else 1.
+    pub fn write(&mut self, rt: &HostRuntime) -> Result<ExitCode, Fault> {
+        self.lines.sort_by_key(|it| it.0)?;
+        let mut output = Vec::new(rt.alloc());
+        for (_, line) in &self.lines {
+            push(&mut output, &[line.as_bytes()])?;
+        }
+        print(rt, &output)?;
+        Ok(ExitCode::from(if self.lines.is_empty() { 0 } else { 1 }))
     }
 }
 
@@ -125,43 +119,13 @@ impl fmt::Display for Covering<'_> {
             [] => f.write_str("it matches no path"),
             [line] => write!(f, "line {line} covers it"),
             [before @ .., last] => {
-                f.write_str("lines ")?;
-                for (i, line) in before.iter().enumerate() {
-                    f.write_str(if i == 0 { "" } else { ", " })?;
-                    line.fmt(f)?;
+                let mut separator = "lines ";
+                for line in before {
+                    write!(f, "{separator}{line}")?;
+                    separator = ", ";
                 }
                 write!(f, " and {last} cover it")
             }
         }
     }
-}
-
-/// The line of a rule that ignores a directory above what another matches, as it is printed.
-#[derive(Clone, Copy)]
-struct Hiding<'a>(&'a [usize]);
-
-impl fmt::Display for Hiding<'_> {
-    fn fmt<W: fmt::Write>(&self, f: &mut fmt::Formatter<W>) -> fmt::Result {
-        f.write_str("its paths lie in ignored directories, as by line")?;
-        for line in self.0 {
-            write!(f, " {line}")?;
-        }
-        Ok(())
-    }
-}
-
-/// Returns the numbers of the lines of the rules with these indexes, in ascending order.
-fn numbers(
-    alloc: Global,
-    rules: &[RuleLine<'_>],
-    indexes: &[usize],
-) -> Result<Vec<usize>, AllocError> {
-    let mut numbers = Vec::new(alloc);
-    for index in indexes {
-        if let Some(rule) = rules.get(*index) {
-            numbers.push(rule.number)?;
-        }
-    }
-    numbers.sort_unstable();
-    Ok(numbers)
 }

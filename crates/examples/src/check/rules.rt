@@ -1,11 +1,13 @@
 //! The rules of an owners file, with their globs.
 
+use super::COMMAND;
 use super::findings::RuleLine;
-use crate::command::{Command, Fault, Shown};
+use crate::command::{Fault, Shown};
 use crate::owner_rule::OwnerRule;
 use crate::text_file::TextFile;
 use globset::{Error, Glob};
 use std::alloc::{AllocError, Global};
+use std::ops::Range;
 
 /// The rules of an owners file, and all their globs, in the order of the lines. An index names a rule.
 #[derive(Drop)]
@@ -13,22 +15,18 @@ pub struct Rules<'t> {
     /// The line of each rule.
     pub lines: Vec<RuleLine<'t>>,
     pub globs: Vec<Glob>,
-    /// For each rule the index of its first glob.
-    starts: Vec<usize>,
+    /// For each glob the index of its rule.
+    owners: Vec<usize>,
 }
 
 impl<'t> Rules<'t> {
     /// Reads an owners file. Returns `None` if a pattern cannot be read; then the error of each such pattern was written to
     /// standard error.
-    pub fn read(
-        rt: &HostRuntime,
-        file: &'t TextFile,
-        command: Command,
-    ) -> Result<Option<Rules<'t>>, Fault> {
+    pub fn read(rt: &HostRuntime, file: &'t TextFile) -> Result<Option<Rules<'t>>, Fault> {
         let mut rules = Rules {
             lines: Vec::new(rt.alloc()),
             globs: Vec::new(rt.alloc()),
-            starts: Vec::new(rt.alloc()),
+            owners: Vec::new(rt.alloc()),
         };
         let mut is_right = true;
         for (i, line) in file.lines(rt.alloc())?.iter().enumerate() {
@@ -37,7 +35,7 @@ impl<'t> Rules<'t> {
                 Ok(globs) => rules.push(i + 1, rule.pattern, globs)?,
                 Err(error) => {
                     is_right = false;
-                    command.report(rt, &pattern_fault(rt.alloc(), file, i + 1, line, error)?);
+                    COMMAND.report(rt, &pattern_fault(rt.alloc(), file, i + 1, line, error)?);
                 }
             }
         }
@@ -54,38 +52,41 @@ impl<'t> Rules<'t> {
         if pattern.is_empty() {
             return Ok(());
         }
-        let text = pattern.as_bytes();
-        self.lines.push(RuleLine { number, text })?;
-        self.starts.push(self.globs.len())?;
         for glob in globs {
             self.globs.push(glob)?;
+            self.owners.push(self.lines.len())?;
         }
-        Ok(())
+        let text = pattern.as_bytes();
+        Ok(self.lines.push(RuleLine { number, text })?)
+    }
+
+    /// Returns the indexes of the globs of a rule.
+    pub fn range(&self, rule: usize) -> Range<usize> {
+        let start = self.owners.partition_point(|owner| *owner < rule);
+        start..self.owners.partition_point(|owner| *owner <= rule)
     }
 
     /// Returns the globs of a rule.
     pub fn globs_of(&self, rule: usize) -> &[Glob] {
-        self.globs
-            .get(self.start_of(rule)..self.end_of(rule))
-            .unwrap_or(&[])
+        self.globs.get(self.range(rule)).unwrap_or(&[])
     }
 
-    /// Returns the globs of all later rules.
-    pub fn globs_after(&self, rule: usize) -> &[Glob] {
-        self.globs.get(self.end_of(rule)..).unwrap_or(&[])
-    }
-
-    /// Returns whether the glob with an index, among those of all rules, is the rule's own.
-    pub fn has(&self, rule: usize, glob: usize) -> bool {
-        (self.start_of(rule)..self.end_of(rule)).contains(&glob)
-    }
-
-    fn start_of(&self, rule: usize) -> usize {
-        self.starts.get(rule).copied().unwrap_or(self.globs.len())
-    }
-
-    fn end_of(&self, rule: usize) -> usize {
-        self.start_of(rule.saturating_add(1))
+    /// Returns copies of the globs of chosen rules, without the rule at a place among these.
+    pub fn globs_without(
+        &self,
+        alloc: Global,
+        chosen: &[usize],
+        place: usize,
+    ) -> Result<Vec<Glob>, Error> {
+        let mut globs = Vec::new(alloc);
+        for (i, rule) in chosen.iter().enumerate() {
+            if i != place {
+                for glob in self.globs_of(*rule) {
+                    globs.push(glob.clone()?)?;
+                }
+            }
+        }
+        Ok(globs)
     }
 }
 
@@ -105,12 +106,10 @@ fn pattern_fault(
         .place_in_pattern(offset)
         .saturating_add(indent);
     let before = line.as_bytes().get(..place).unwrap_or(line.as_bytes());
-    let mut spaces = String::new(alloc);
-    for _ in Shown(before).to_string(alloc)?.chars() {
-        spaces.push(' ')?;
-    }
+    let width = Shown(before).to_string(alloc)?.chars().count();
+    let spaces = " ".repeat(alloc, width)?;
     let reason = error.kind().to_string(alloc)?;
-    let (file, reason) = (Shown(file.name().as_bytes()), Shown(reason.as_bytes()));
+    let (file, reason) = (Shown(file.name.as_bytes()), Shown(reason.as_bytes()));
     let text = Shown(line.as_bytes());
     Ok(Fault::Text(format!(in alloc; "{file}: line {number}: {reason}\n  {text}\n  {spaces}^")?))
 }

@@ -1,6 +1,8 @@
-//! The parsed arguments.
+//! The parsed arguments, and their globs.
 
 use crate::command::Fault;
+use crate::text_file::TextFile;
+use globset::{Error, Glob, GlobBuilder, GlobSetBuilder, Searcher};
 use std::alloc::Global;
 
 /// The options that have no argument.
@@ -55,7 +57,10 @@ impl<'a> Arguments<'a> {
         for argument in arguments {
             read.push(argument.as_str())?;
         }
-        if read.is_complete() {
+        let is_complete = !matches!(read.next, Next::File | Next::Excludes);
+        let has_filter = read.has_globs() || read.flags.ignored;
+        let is_search = is_complete && has_filter && !read.folder().is_empty();
+        if is_search || read.flags.help || read.flags.version {
             Ok(read)
         } else {
             Err(Fault::Usage)
@@ -67,13 +72,11 @@ impl<'a> Arguments<'a> {
         let is_option = argument.len() > 1 && argument.starts_with('-');
         match self.next {
             Next::Any if is_option => return self.set(argument),
-            Next::Any | Next::Word => self.words.push(argument)?,
+            Next::Any | Next::Word => return Ok(self.words.push(argument)?),
             Next::File => self.files.push(argument)?,
             Next::Excludes => self.excludes.push(argument)?,
         }
-        if let Next::File | Next::Excludes = self.next {
-            self.next = Next::Any;
-        }
+        self.next = Next::Any;
         Ok(())
     }
 
@@ -98,21 +101,58 @@ impl<'a> Arguments<'a> {
         Ok(())
     }
 
-    /// Returns whether nothing is missing.
-    fn is_complete(&self) -> bool {
-        let next_is_file = matches!(self.next, Next::File | Next::Excludes);
-        let has_filter = self.has_globs() || self.flags.ignored;
-        let is_search = !self.folder().is_empty() && has_filter && !next_is_file;
-        is_search || self.flags.help || self.flags.version
-    }
-
     /// Returns the directory, or nothing if it is missing.
     pub fn folder(&self) -> &'a str {
         self.words.first().copied().unwrap_or("")
     }
 
     /// Returns whether there is a glob, or a file of globs.
-    pub fn has_globs(&self) -> bool {
+    fn has_globs(&self) -> bool {
         self.words.len() > 1 || !self.files.is_empty()
     }
+}
+
+/// Reads the globs of the arguments, and of the files that they name; without any of them every path matches. Fails with the
+/// error of the first text that is not a glob, or if a file cannot be read.
+pub fn read_globs(rt: &HostRuntime, arguments: &Arguments<'_>) -> Result<Searcher, Fault> {
+    let alloc = rt.alloc();
+    let mut globs = GlobSetBuilder::new(alloc);
+    if !arguments.has_globs() {
+        globs.push(Glob::new(alloc, "**")?)?;
+    }
+    for text in arguments.words.iter().skip(1) {
+        globs.push(glob(alloc, text, arguments.flags)?)?;
+    }
+    for name in &arguments.files {
+        let file = TextFile::read(rt, name)?;
+        push_lines(alloc, &mut globs, &file, arguments.flags)?;
+    }
+    Ok(Searcher::new(alloc, &globs.into_set()?)?)
+}
+
+/// Adds the globs of the lines of a file. Fails with the line if a text is not a glob.
+fn push_lines(
+    alloc: Global,
+    globs: &mut GlobSetBuilder,
+    file: &TextFile,
+    flags: Flags,
+) -> Result<(), Fault> {
+    for (i, line) in file.lines(alloc)?.iter().enumerate() {
+        if line.trim().is_empty() || line.starts_with('#') {
+            continue;
+        }
+        match glob(alloc, line, flags) {
+            Ok(glob) => globs.push(glob)?,
+            Err(error) => return file.fail(alloc, i + 1, line.as_bytes(), error.kind()),
+        }
+    }
+    Ok(())
+}
+
+/// Returns the glob of a text.
+fn glob(alloc: Global, text: &str, flags: Flags) -> Result<Glob, Error> {
+    GlobBuilder::new(text)
+        .case_insensitive(flags.case_insensitive)
+        .literal_separator(flags.literal_separator)
+        .build(alloc)
 }

@@ -1,9 +1,11 @@
 //! What ignore files leave out of a walk.
 
+use super::arguments::Arguments;
 use crate::command::Fault;
 use crate::ignore_lines::walk::go_up;
+use crate::text_file::TextFile;
 use git_ignore::IgnoreStack;
-use std::alloc::{AllocError, Global};
+use std::alloc::AllocError;
 use std::fs::{self, FileType};
 use std::io;
 
@@ -14,19 +16,17 @@ pub struct Ignored {
 }
 
 impl Ignored {
-    /// Returns a state without ignore files, which leaves out nothing.
-    pub fn new(alloc: Global, is_asked: bool) -> Ignored {
-        Ignored {
-            stack: is_asked.then(|| IgnoreStack::new(alloc)),
+    /// Returns the state before the first directory is entered, with the ignore files that the arguments name. Fails if one of
+    /// these cannot be read.
+    pub fn new(rt: &HostRuntime, arguments: &Arguments<'_>) -> Result<Ignored, Fault> {
+        if !arguments.flags.ignored {
+            return Ok(Ignored { stack: None });
         }
-    }
-
-    /// Takes an ignore file of the first directory, before this is entered: later files take precedence.
-    pub fn add_excludes(&mut self, file: &[u8]) -> Result<(), AllocError> {
-        match &mut self.stack {
-            Some(stack) => stack.add_file(file),
-            None => Ok(()),
+        let mut stack = IgnoreStack::new(rt.alloc());
+        for name in &arguments.excludes {
+            stack.add_file(&TextFile::read(rt, name)?.bytes)?;
         }
+        Ok(Ignored { stack: Some(stack) })
     }
 
     /// Returns whether a directory is a repository of its own, which git does not look into. Its path ends in `/`. In it there is a
@@ -35,9 +35,8 @@ impl Ignored {
         if self.stack.is_none() {
             return Ok(false);
         }
-        let head = format!(in rt.alloc(); "{folder}.git/HEAD")?;
-        let file = format!(in rt.alloc(); "{folder}.git")?;
-        Ok(is_file(rt, head.as_str()) || is_file(rt, file.as_str()))
+        let head = file_in(rt, folder, ".git/HEAD")?;
+        Ok(head.is_some() || file_in(rt, folder, ".git")?.is_some())
     }
 
     /// Returns whether an entry of this kind is printed as a file. git prints symbolic links, too.
@@ -53,19 +52,28 @@ impl Ignored {
         rt: &HostRuntime,
         folder: &str,
         below: &str,
-    ) -> Result<Option<io::Error>, Fault> {
+    ) -> Result<Option<io::Error>, AllocError> {
         let Some(stack) = &mut self.stack else {
             return Ok(None);
         };
         if let Some(name) = go_up(stack, below.as_bytes()).strip_suffix(b"/") {
             stack.enter(name)?;
         }
-        if below.is_empty() {
-            if let Some(error) = add_file(rt, stack, folder, ".git/info/exclude")? {
-                return Ok(Some(error));
+        let names: &[&str] = if below.is_empty() {
+            &[".git/info/exclude", ".gitignore"]
+        } else {
+            &[".gitignore"]
+        };
+        for name in names {
+            let Some(path) = file_in(rt, folder, name)? else {
+                continue;
+            };
+            match fs::read(rt, path.as_str()) {
+                Ok(bytes) => stack.add_file(&bytes)?,
+                Err(error) => return Ok(Some(error)),
             }
         }
-        add_file(rt, stack, folder, ".gitignore")
+        Ok(None)
     }
 
     /// Returns whether an entry of the current directory is ignored, or is named `.git`.
@@ -81,27 +89,9 @@ impl Ignored {
     }
 }
 
-/// Reads an ignore file of the current directory, if it is there and a file. Returns the error if it cannot be read.
-fn add_file(
-    rt: &HostRuntime,
-    stack: &mut IgnoreStack,
-    folder: &str,
-    name: &str,
-) -> Result<Option<io::Error>, Fault> {
+/// Returns the path of a file in a directory, if it is there, and no link.
+fn file_in(rt: &HostRuntime, folder: &str, name: &str) -> Result<Option<String>, AllocError> {
     let path = format!(in rt.alloc(); "{folder}{name}")?;
-    if !is_file(rt, path.as_str()) {
-        return Ok(None);
-    }
-    match fs::read(rt, path.as_str()) {
-        Ok(bytes) => {
-            stack.add_file(bytes.as_slice())?;
-            Ok(None)
-        }
-        Err(error) => Ok(Some(error)),
-    }
-}
-
-/// Returns whether there is a file at a path, and no link.
-fn is_file(rt: &HostRuntime, path: &str) -> bool {
-    fs::symlink_metadata(rt, path).is_ok_and(|metadata| metadata.is_file())
+    let is_file = fs::symlink_metadata(rt, path.as_str()).is_ok_and(|it| it.is_file());
+    Ok(if is_file { Some(path) } else { None })
 }

@@ -7,13 +7,11 @@
 //! since `.` is less than `/`.
 
 use super::COMMAND;
-use super::arguments::Flags;
-use super::globs::Wanted;
+use super::arguments::{Arguments, Flags, read_globs};
 use super::ignored::Ignored;
 use crate::command::Fault;
-use globset::Searcher;
-use std::alloc::{AllocError, Global};
-use std::fs::{self, DirEntry, FileType, ReadDir};
+use globset::{Candidate, Searcher};
+use std::fs::{self, DirEntry};
 use std::io::{self, BufWriter, ErrorKind, Write};
 use std::process::ExitCode;
 
@@ -37,29 +35,24 @@ pub struct Walk {
 }
 
 impl Walk {
-    /// Returns a walk that is to open this directory.
-    pub fn new(
-        alloc: Global,
-        folder: &str,
-        globs: Searcher,
-        ignored: Ignored,
-        flags: Flags,
-    ) -> Result<Walk, AllocError> {
-        let folder = with_slash(alloc, folder.strip_suffix('/').unwrap_or(folder))?;
-        let skipped = folder.len();
-        let mut pending = Vec::new(alloc);
-        pending.push(folder)?;
-        Ok(Walk {
-            globs,
-            ignored,
-            flags,
-            pending,
-            skipped,
+    /// Returns a walk that is to open the directory of the arguments. Fails if a glob or a file that they name cannot be read.
+    pub fn new(rt: &HostRuntime, arguments: &Arguments<'_>) -> Result<Walk, Fault> {
+        let mut walk = Walk {
+            globs: read_globs(rt, arguments)?,
+            ignored: Ignored::new(rt, arguments)?,
+            flags: arguments.flags,
+            pending: Vec::new(rt.alloc()),
+            skipped: 0,
             opened: 0,
             left_closed: 0,
             has_printed: false,
             has_failed: false,
-        })
+        };
+        let name = arguments.folder();
+        let folder = format!(in rt.alloc(); "{}/", name.strip_suffix('/').unwrap_or(name))?;
+        walk.skipped = folder.len();
+        walk.pending.push(folder)?;
+        Ok(walk)
     }
 
     /// Walks, and prints the paths that match. Returns the exit status.
@@ -74,31 +67,24 @@ impl Walk {
             self.visit(rt, path.as_str(), &mut output)?;
         }
         output.flush().map_err(Fault::Output)?;
-        Ok(self.finish(rt))
-    }
-
-    /// Prints the numbers of directories, if they are wanted, and returns the exit status.
-    fn finish(&self, rt: &HostRuntime) -> ExitCode {
         if self.flags.count {
             let (opened, closed) = (self.opened, self.left_closed);
             let _ = eprintln!(rt; "find_files: folders opened: {opened}, left closed: {closed}");
         }
-        if self.has_failed {
-            ExitCode::from(2)
-        } else if self.has_printed {
-            ExitCode::SUCCESS
-        } else {
-            ExitCode::from(1)
-        }
+        Ok(ExitCode::from(match (self.has_failed, self.has_printed) {
+            (true, _) => 2,
+            (false, true) => 0,
+            (false, false) => 1,
+        }))
     }
 
     /// Opens a directory, or prints the path of a file. A repository in the first directory stays closed, and its path is printed
     /// if it matches.
-    fn visit<W: Write>(
+    fn visit(
         &mut self,
         rt: &HostRuntime,
         path: &str,
-        output: &mut W,
+        output: &mut impl Write,
     ) -> Result<(), Fault> {
         let below = self.shown(path);
         if !path.ends_with('/') {
@@ -109,14 +95,14 @@ impl Walk {
         }
         self.left_closed = self.left_closed.saturating_add(1);
         let name = below.strip_suffix('/').unwrap_or(below);
-        if Wanted::of(&mut self.globs, name).is_file {
+        if self.globs.is_match(&Candidate::new(name)) {
             self.print(below, output)?;
         }
         Ok(())
     }
 
     /// Prints a path, which is below the first directory.
-    fn print<W: Write>(&mut self, below: &str, output: &mut W) -> Result<(), Fault> {
+    fn print(&mut self, below: &str, output: &mut impl Write) -> Result<(), Fault> {
         self.has_printed = true;
         let end = if self.flags.ends_in_nul { b'\0' } else { b'\n' };
         output.write_all(below.as_bytes()).map_err(Fault::Output)?;
@@ -137,7 +123,14 @@ impl Walk {
         }
         let first = self.pending.len();
         match fs::read_dir(rt, folder) {
-            Ok(entries) => self.take_all(rt, folder, entries)?,
+            Ok(entries) => {
+                for entry in entries {
+                    match entry {
+                        Ok(entry) => self.take(rt, &entry)?,
+                        Err(error) => self.report(rt, folder, error),
+                    }
+                }
+            }
             Err(error) => self.report(rt, folder, error),
         }
         if let Some(added) = self.pending.as_mut_slice().get_mut(first..) {
@@ -146,78 +139,47 @@ impl Walk {
         Ok(())
     }
 
-    /// Takes the entries of a directory.
-    fn take_all(&mut self, rt: &HostRuntime, folder: &str, entries: ReadDir) -> Result<(), Fault> {
-        for entry in entries {
-            match entry {
-                Ok(entry) => self.take(rt, &entry)?,
-                Err(error) => self.report(rt, folder, error),
-            }
-        }
-        Ok(())
-    }
-
-    /// Takes an entry of a directory. It gets the type only where that matters.
+    /// Takes an entry of a directory: its path is pending if it is to be printed or opened, and is not ignored. It gets the type
+    /// only where that matters. Links are left out, unless ignore files are read, as git prints them. Other things that are neither
+    /// a file nor a directory are left out, too.
     fn take(&mut self, rt: &HostRuntime, entry: &DirEntry) -> Result<(), Fault> {
         let path = entry.path().as_str();
-        let shown = self.shown(path);
-        let wanted = Wanted::of(&mut self.globs, shown);
-        if !wanted.is_file && !wanted.is_folder && !self.flags.count {
+        let below = self.shown(path);
+        let candidate = Candidate::new(below);
+        let is_match = self.globs.is_match(&candidate);
+        let can_match_below = self.globs.can_match_below(&candidate);
+        if !is_match && !can_match_below && !self.flags.count {
             return Ok(());
         }
-        match entry.file_type() {
-            Ok(kind) => self.take_kind(rt.alloc(), path, kind, wanted),
+        let kind = match entry.file_type() {
+            Ok(kind) => kind,
             Err(error) => {
                 self.report(rt, path, error);
-                Ok(())
+                return Ok(());
             }
-        }
-    }
-
-    /// Takes an entry of this kind, unless it is ignored: its path is then pending. Links are left out, unless ignore files are
-    /// read, as git prints them. Other things that are neither a file nor a directory are left out, too.
-    fn take_kind(
-        &mut self,
-        alloc: Global,
-        path: &str,
-        kind: FileType,
-        wanted: Wanted,
-    ) -> Result<(), Fault> {
-        let below = self.shown(path);
+        };
         let is_kept = !self.ignored.leaves_out(below, kind.is_dir())?;
-        if kind.is_dir() {
-            if wanted.is_folder && is_kept {
-                self.pending.push(with_slash(alloc, path)?)?;
-            } else {
-                self.left_closed = self.left_closed.saturating_add(1);
-            }
-        } else if wanted.is_file && is_kept && self.ignored.is_file(kind) {
-            self.pending.push(String::from_str(alloc, path)?)?;
+        if kind.is_dir() && can_match_below && is_kept {
+            self.pending.push(format!(in rt.alloc(); "{path}/")?)?;
+        } else if kind.is_dir() {
+            self.left_closed = self.left_closed.saturating_add(1);
+        } else if is_match && is_kept && self.ignored.is_file(kind) {
+            self.pending.push(String::from_str(rt.alloc(), path)?)?;
         }
         Ok(())
     }
 
-    /// Prints that something cannot be read.
+    /// Prints that something cannot be read. A name that is not UTF-8 has a text of its own.
     fn report(&mut self, rt: &HostRuntime, path: &str, error: io::Error) {
         self.has_failed = true;
         let name = path.strip_suffix('/').unwrap_or(path);
-        COMMAND.report(rt, &Fault::file(rt.alloc(), name, said(error)));
-    }
-}
-
-/// Returns the path of a directory with `/` at its end.
-fn with_slash(alloc: Global, folder: &str) -> Result<String, AllocError> {
-    format!(in alloc; "{folder}/")
-}
-
-/// Returns the error of a path that cannot be read, with a text of its own for a name in a directory that is not UTF-8.
-fn said(error: io::Error) -> io::Error {
-    // A path that is too long for the system has the same kind, and a number.
-    match (error.kind(), error.raw_os_error()) {
-        (ErrorKind::InvalidFilename, None) => io::Error::new(
-            ErrorKind::InvalidFilename,
-            "it has a name that is not UTF-8",
-        ),
-        _ => error,
+        // A path that is too long for the system has the same kind, and a number.
+        let error = match (error.kind(), error.raw_os_error()) {
+            (kind @ ErrorKind::InvalidFilename, None) => {
+                io::Error::new(kind, "it has a name that is not UTF-8")
+            }
+            _ => error,
+        };
+        COMMAND.report(rt, &Fault::file(rt.alloc(), name, error));
     }
 }

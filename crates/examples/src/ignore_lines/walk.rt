@@ -16,17 +16,6 @@ pub struct Walk {
 }
 
 impl Walk {
-    /// Returns a walk in the top directory, which has this ignore file.
-    pub fn with_file(
-        alloc: Global,
-        file: &TextFile,
-        ignore_case: bool,
-    ) -> Result<Walk, AllocError> {
-        let mut walk = Walk::new(alloc, Vec::new(alloc), ignore_case)?;
-        walk.stack.add_file(file.bytes())?;
-        Ok(walk)
-    }
-
     /// Returns a walk in the top directory. Each ignore file is for its own directory, by its name. Of those of a directory, a
     /// later one takes precedence.
     pub fn new(
@@ -70,7 +59,7 @@ impl Walk {
             .files
             .iter()
             .filter(|it| folder.starts_with(it.folder()));
-        let name = above.nth(rule.file).map_or("", TextFile::name);
+        let name = above.nth(rule.file).map_or("", |it| it.name.as_str());
         let text = self.stack.line_text(rule.file, rule.line);
         (name, text.unwrap_or(&[]))
     }
@@ -79,7 +68,7 @@ impl Walk {
     fn add_files(&mut self) -> Result<(), AllocError> {
         for file in &self.files {
             if file.folder() == self.stack.folder() {
-                self.stack.add_file(file.bytes())?;
+                self.stack.add_file(&file.bytes)?;
             }
         }
         Ok(())
