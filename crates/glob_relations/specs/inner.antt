@@ -4,4 +4,3 @@ pub mod Rows
 pub mod Leading
 pub mod Memory
 pub mod Automata
-pub mod Told

@@ -1,6 +1,7 @@
 //! What is compared: globs, and patterns of ignore files. Both are items here.
 
-ghost use Rattle.std.specs.Prelude.{◌≡◌, ℕ, ◌+◌, ◌^◌, ◌<◌, ◌≤◌, Bool, List, ◌∷◌, [], ◌++◌, length, Contains, IfOk, OnOk};
+ghost use Rattle.std.specs.Prelude.{◌≡◌, ℕ, ◌+◌, ◌-◌, ◌^◌, ◌<◌, ◌≤◌, Bool, List, ◌∷◌, [], ◌++◌, length, Contains, IfOk, OnOk};
+ghost use Rattle.std.specs.List.{range_with_len};
 ghost use Rattle.glob_text.specs.GlobMatches.{glob_matches};
 ghost use Rattle.ignore_pattern.specs.Patterns.{pattern_matches};
 ghost use Rattle.glob_relations.specs.Unused.{items_at};
@@ -74,23 +75,6 @@ impl Compared for IgnorePattern {
     }
 }
 
-/// Returns an automaton where an item has the index 0, and each of the others has the index 1.
-pub fn automaton_of_one<T: Compared>(
-    alloc: Global,
-    options: T::Options,
-    item: &T,
-    others: &[T],
-) -> Result<Nfa, AllocError>
-    ensures { IfOk result (IsFor (T.matches options) ((item.now, 0) ∷ under 1 others.now)) }
-{
-    let mut builder = new_builder(alloc, 2);
-    item.add_to(alloc, options, &mut builder, 0)?;
-    for other in others {
-        other.add_to(alloc, options, &mut builder, 1)?;
-    }
-    Ok(builder.finish())
-}
-
 /// Returns a builder of an automaton for an item, with the index 0, and for the items of a list at these indexes, with the index
 /// 1.
 pub fn builder_at<T: Compared>(
@@ -147,4 +131,16 @@ pub fn add_numbered<T: Compared>(
         item.add_to(alloc, options, builder, first + k)?;
     }
     Ok(())
+}
+
+/// Returns the numbers from `low` on that are below `high`.
+pub fn numbers(alloc: Global, low: usize, high: usize) -> Result<Vec<usize>, AllocError>
+    requires { low ≤ high }
+    ensures { IfOk result (λ all. all.items ≡ range_with_len low (high - low)) }
+{
+    let mut all = Vec::new(alloc);
+    for k in low..high {
+        all.push(k)?;
+    }
+    Ok(all)
 }

@@ -1,7 +1,7 @@
 //! The paths that questions are about.
 
 ghost use Rattle.std.specs.Prelude.{◌≡◌};
-ghost use Rattle.glob_relations.specs.inner.Places.{kind_of, after_slash, after_point, after_zero, after_other, place_after, is_last_place, first_place};
+ghost use Rattle.glob_relations.specs.inner.Places.{kind_of, place_after, is_last_place, first_place};
 
 /// A set of paths.
 #[derive(Clone, Copy)]
@@ -45,59 +45,13 @@ impl Place {
     pub fn after(self, byte: u8) -> Option<Place>
         ensures { result ≡ place_after self byte }
     {
-        match kind_of(byte) {
-            Kind::Slash => self.after_slash(),
-            Kind::Point => self.after_point(),
-            Kind::Zero => self.after_zero(),
-            Kind::Other => self.after_other(),
-        }
-    }
-
-    fn after_slash(self) -> Option<Place>
-        ensures { result ≡ after_slash self }
-    {
-        match self {
-            Place::Anywhere => Some(Place::Anywhere),
-            Place::Start => None,
-            Place::Dot => None,
-            Place::TwoDots => None,
-            Place::Inside => Some(Place::Start),
-        }
-    }
-
-    fn after_point(self) -> Option<Place>
-        ensures { result ≡ after_point self }
-    {
-        match self {
-            Place::Anywhere => Some(Place::Anywhere),
-            Place::Start => Some(Place::Dot),
-            Place::Dot => Some(Place::TwoDots),
-            Place::TwoDots => Some(Place::Inside),
-            Place::Inside => Some(Place::Inside),
-        }
-    }
-
-    fn after_zero(self) -> Option<Place>
-        ensures { result ≡ after_zero self }
-    {
-        match self {
-            Place::Anywhere => Some(Place::Anywhere),
-            Place::Start => None,
-            Place::Dot => None,
-            Place::TwoDots => None,
-            Place::Inside => None,
-        }
-    }
-
-    fn after_other(self) -> Option<Place>
-        ensures { result ≡ after_other self }
-    {
-        match self {
-            Place::Anywhere => Some(Place::Anywhere),
-            Place::Start => Some(Place::Inside),
-            Place::Dot => Some(Place::Inside),
-            Place::TwoDots => Some(Place::Inside),
-            Place::Inside => Some(Place::Inside),
+        match (self, kind_of(byte)) {
+            (Place::Anywhere, _) => Some(Place::Anywhere),
+            (Place::Start, Kind::Point) => Some(Place::Dot),
+            (Place::Dot, Kind::Point) => Some(Place::TwoDots),
+            (Place::Inside, Kind::Slash) => Some(Place::Start),
+            (_, Kind::Point | Kind::Other) => Some(Place::Inside),
+            (_, Kind::Slash | Kind::Zero) => None,
         }
     }
 
@@ -105,13 +59,7 @@ impl Place {
     pub fn is_last(self) -> bool
         ensures { result ≡ is_last_place self }
     {
-        match self {
-            Place::Anywhere => true,
-            Place::Start => false,
-            Place::Dot => false,
-            Place::TwoDots => false,
-            Place::Inside => true,
-        }
+        matches!(self, Place::Anywhere | Place::Inside)
     }
 }
 

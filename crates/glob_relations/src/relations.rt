@@ -1,17 +1,15 @@
 //! Whether globs cover a glob, or patterns of ignore files a pattern, and whether two globs overlap.
 
-ghost use Rattle.std.specs.Prelude.{◌≡◌, ◌∷◌, [], IfOk, IsOkUnless};
+ghost use Rattle.std.specs.Prelude.{ℕ, ◌<◌, length, Contains, IfOk, IsOkUnless};
 ghost use Rattle.glob_text.specs.Errors.{out_of_memory};
 ghost use Rattle.glob_text.specs.GlobMatches.{glob_matches};
 ghost use Rattle.ignore_pattern.specs.Patterns.{pattern_matches};
 ghost use Rattle.glob_relations.specs.Answers.{TellsCovering, TellsOverlap};
-ghost use Rattle.glob_relations.specs.inner.Automata.{IsFor};
-ghost use Rattle.glob_relations.specs.inner.Told.{coverage_of, intersection_of};
+ghost use Rattle.glob_relations.specs.Unused.{items_at};
 
-use crate::compared::{Compared, automaton_of_one};
+use crate::compared::{Compared, builder_at, numbers};
 use crate::domain::Domain;
 use crate::search::{Answer, search};
-use byte_nfa::Nfa;
 use glob_strategy::new_builder;
 use globset_glob::{Error, Glob};
 use ignore_pattern::IgnorePattern;
@@ -90,19 +88,29 @@ fn cover<T: Compared>(
 ) -> Result<Coverage, AllocError>
     ensures { IfOk result (TellsCovering (T.matches options) item.now by.now domain limit) }
 {
-    let automaton = automaton_of_one(alloc, options, item, by)?;
-    let answer = search(alloc, &automaton, 1, domain, limit)?;
-    Ok(coverage_of(answer))
+    let all = numbers(alloc, 0, by.len())?;
+    covering_at(alloc, options, item, by, &all, domain, limit)
 }
 
-/// Returns the coverage that a search found, for an item and those that may cover it.
-pub(crate) fn coverage_of(answer: Answer) -> Coverage
-    ensures { result ≡ coverage_of answer }
+/// Returns whether each path of a domain that an item matches is matched by some of the items of a list at these indexes.
+pub(crate) fn covering_at<T: Compared>(
+    alloc: Global,
+    options: T::Options,
+    item: &T,
+    items: &[T],
+    by: &[usize],
+    domain: Domain,
+    limit: usize,
+) -> Result<Coverage, AllocError>
+    requires { (k : ℕ) → Contains by.now k → k < length items.now }
+    ensures { IfOk result
+        (TellsCovering (T.matches options) item.now (items_at items.now by.now) domain limit) }
 {
-    match answer {
-        Answer::Found(path) => Coverage::Not(path),
-        Answer::Nothing => Coverage::Covered,
-        Answer::Limit => Coverage::Unknown,
+    let automaton = builder_at(alloc, options, 2, item, items, by)?.finish();
+    match search(alloc, &automaton, 1, domain, limit)? {
+        Answer::Found(path) => Ok(Coverage::Not(path)),
+        Answer::Nothing => Ok(Coverage::Covered),
+        Answer::Limit => Ok(Coverage::Unknown),
     }
 }
 
@@ -119,27 +127,13 @@ pub fn overlap(
     ensures ok { IfOk result (TellsOverlap a.now b.now domain limit) }
     ensures err { IsOkUnless result out_of_memory }
 {
-    let automaton = automaton_of_two(alloc, a, b)?;
-    let answer = search(alloc, &automaton, 2, domain, limit)?;
-    Ok(intersection_of(answer))
-}
-
-fn intersection_of(answer: Answer) -> Intersection
-    ensures { result ≡ intersection_of answer }
-{
-    match answer {
-        Answer::Found(path) => Intersection::Both(path),
-        Answer::Nothing => Intersection::Disjoint,
-        Answer::Limit => Intersection::Unknown,
-    }
-}
-
-/// Returns an automaton where a glob has the index 0, and another has the index 1, and none has the index 2.
-fn automaton_of_two(alloc: Global, a: &Glob, b: &Glob) -> Result<Nfa, AllocError>
-    ensures { IfOk result (IsFor glob_matches ((a.now, 0) ∷ (b.now, 1) ∷ [])) }
-{
+    // One glob has the index 0, the other has the index 1, and none has the index 2.
     let mut builder = new_builder(alloc, 3);
     a.add_to(alloc, (), &mut builder, 0)?;
     b.add_to(alloc, (), &mut builder, 1)?;
-    Ok(builder.finish())
+    match search(alloc, &builder.finish(), 2, domain, limit)? {
+        Answer::Found(path) => Ok(Intersection::Both(path)),
+        Answer::Nothing => Ok(Intersection::Disjoint),
+        Answer::Limit => Ok(Intersection::Unknown),
+    }
 }

@@ -31,7 +31,6 @@ pub struct Rows {
 }
 
 impl Rows {
-    ghost use Rattle.glob_relations.specs.declared.domain.Domain.{Domain};
     ghost use Rattle.glob_relations.specs.declared.search.Question.{Question};
     ghost use Rattle.glob_relations.specs.inner.Rows.{AddsRow, AreDifferent, AreRows, HasRow, IsDeep, WantsRow, WantsFrom};
 
@@ -85,9 +84,9 @@ impl Rows {
         // In the rows of a search, the path is wanted if the row is. It consists of bytes, as many as led from the first row to
         // this one.
         ensures path { IfOk result
-            (λ path. (m : NfaValue) (n : Question) (domain : Domain) (row : Row)
-            → AreRows m n domain self.now → HasRow self.now number row → WantsRow m n row []
-            → WantsFrom m n domain path.items) }
+            (λ path. (m : NfaValue) (n : Question) (row : Row)
+            → AreRows m n self.now → HasRow self.now number row → WantsRow m n row []
+            → WantsFrom m n path.items) }
         ensures bytes { IfOk result (λ path. AllBytes path.items) }
         ensures length { IfOk result
             (λ path. (depth : ℕ) → IsDeep self.now depth number → length path.items ≡ depth) }

@@ -2,8 +2,7 @@
 
 ghost use Rattle.std.specs.Prelude.{◌≡◌, ℕ, ◌<◌, ◌||◌, not, length, Contains, slice_get, Some, IfOk, ◌↔◌};
 ghost use Rattle.ignore_pattern.specs.Patterns.{Pattern, pattern_matches};
-ghost use Rattle.glob_relations.specs.Rules.{IsDecidedAlone, IsRival, TellsRule};
-ghost use Rattle.glob_relations.specs.Shortest.{IsShortest};
+ghost use Rattle.glob_relations.specs.Rules.{IsRival, TellsRule};
 ghost use Rattle.glob_relations.specs.Unused.{items_at};
 ghost use Rattle.glob_relations.specs.inner.Automata.{FindsEach, IsFor, indexed_rules};
 ghost use Rattle.glob_relations.specs.inner.Closed.{ignores_of};
@@ -61,21 +60,21 @@ pub fn unreachable_rules(
         → TellsRule ignore_case patterns.now i p domain limit told) }
 {
     let automaton = automaton_of_list(alloc, ignore_case, patterns)?;
-    let ignores = ignores_of(alloc, patterns)?;
     let question = Question {
         required: 1,
-        ignores,
+        ignores: ignores_of(alloc, patterns)?,
+        domain,
     };
     let mut all = Vec::new(alloc);
-    for i in 0..patterns.len() {
+    for (i, pattern) in patterns.iter().enumerate() {
         let told = rule_reachability(
             alloc,
+            pattern,
             patterns,
             &automaton,
             &question,
             i,
             ignore_case,
-            domain,
             limit,
         )?;
         all.push(told)?;
@@ -84,14 +83,16 @@ pub fn unreachable_rules(
 }
 
 /// Returns whether the rule of an index ever decides. The automaton finds which rules match a path.
+///
+/// Only if the path about which the rule decides alone lies below an ignored folder, there is a search for a path that does not.
 fn rule_reachability(
     alloc: Global,
+    pattern: &IgnorePattern,
     patterns: &[IgnorePattern],
     automaton: &Nfa,
     question: &Question,
     i: usize,
     ignore_case: bool,
-    domain: Domain,
     limit: usize,
 ) -> Result<RuleReachability, AllocError>
     requires within { i < length patterns.now }
@@ -99,73 +100,28 @@ fn rule_reachability(
     requires required { question.now.required ≡ 1 }
     requires ignores { question.now.ignores.items ≡ ignores_of patterns.now }
     ensures { IfOk result
-        (λ told. (p : Pattern) → slice_get patterns.now i ≡ Some p
-        → TellsRule ignore_case patterns.now i p domain limit told) }
+        (TellsRule ignore_case patterns.now i pattern.now question.now.domain limit) }
 {
-    let pattern = &patterns[i];
     let others = rivals(alloc, pattern, patterns, i)?;
-    let alone = reachability_among(
+    let path = match reachability_among(
         alloc,
         ignore_case,
         pattern,
         patterns,
         automaton,
         &others,
-        domain,
+        question.domain,
         limit,
-    )?;
-    match alone {
-        Reachability::Decides(path) => decide_by_git(
-            alloc,
-            pattern,
-            patterns,
-            automaton,
-            question,
-            i,
-            &others,
-            path,
-            ignore_case,
-            domain,
-            limit,
-        ),
-        Reachability::Never(set) => Ok(RuleReachability::Never(set)),
-        Reachability::Unknown => Ok(RuleReachability::Unknown),
-    }
-}
-
-/// Returns whether a rule decides by git's rule. The path is a shortest one about which it decides alone. Only if an ignored
-/// folder is above it, there is a search for a path with none.
-fn decide_by_git(
-    alloc: Global,
-    pattern: &IgnorePattern,
-    patterns: &[IgnorePattern],
-    automaton: &Nfa,
-    question: &Question,
-    i: usize,
-    others: &[usize],
-    path: Vec<u8>,
-    ignore_case: bool,
-    domain: Domain,
-    limit: usize,
-) -> Result<RuleReachability, AllocError>
-    // The automaton finds which rules match a path. The question requires one index, and tells for each rule whether it ignores
-    // folders.
-    requires finds { FindsEach (pattern_matches ignore_case) patterns.now automaton.now }
-    requires required { question.now.required ≡ 1 }
-    requires ignores { question.now.ignores.items ≡ ignores_of patterns.now }
-
-    // The others are the rivals of the rule, and the path is a shortest one about which it decides alone. The answer is right.
-    requires others { (k : ℕ) → Contains others.now k ↔ IsRival patterns.now i pattern.now k }
-    requires path { IsShortest (IsDecidedAlone ignore_case patterns.now i pattern.now domain)
-        path.items }
-    ensures { IfOk result (TellsRule ignore_case patterns.now i pattern.now domain limit) }
-{
-    let _i = i;
+    )? {
+        Reachability::Decides(path) => path,
+        Reachability::Never(set) => return Ok(RuleReachability::Never(set)),
+        Reachability::Unknown => return Ok(RuleReachability::Unknown),
+    };
     let Some(k) = hiding_rule(alloc, automaton, &question.ignores, &path)? else {
         return Ok(RuleReachability::Decides(path));
     };
-    let all = automaton_of_rule(alloc, pattern, patterns, others, ignore_case)?;
-    match ask(alloc, &all, question, domain, limit)? {
+    let all = automaton_of_rule(alloc, pattern, patterns, &others, ignore_case)?;
+    match ask(alloc, &all, question, limit)? {
         Answer::Found(shown) => Ok(RuleReachability::Decides(shown)),
         Answer::Nothing => Ok(RuleReachability::Hidden(k)),
         Answer::Limit => Ok(RuleReachability::Unknown),

@@ -62,6 +62,8 @@ pub struct Question {
     /// For each of some rules, whether it ignores folders, or keeps them. Its index is `FIRST_RULE` and its number together. A
     /// path is not wanted if the last rule that applies to a folder above it ignores folders.
     pub ignores: Vec<bool>,
+    /// Where the path has to be.
+    pub domain: Domain,
 }
 
 /// The index of the first rule of a question.
@@ -82,25 +84,28 @@ pub fn search(
     ensures { IfOk result (TellsSearch automaton.now required domain limit) }
 {
     let ignores = Vec::new(alloc);
-    let question = Question { required, ignores };
-    ask(alloc, automaton, &question, domain, limit)
+    let question = Question {
+        required,
+        ignores,
+        domain,
+    };
+    ask(alloc, automaton, &question, limit)
 }
 
-/// Looks for a shortest path of a domain that a question wants, as [`search`] does.
+/// Looks for a shortest path that a question wants, as [`search`] does.
 pub fn ask(
     alloc: Global,
     automaton: &Nfa,
     question: &Question,
-    domain: Domain,
     limit: usize,
 ) -> Result<Answer, AllocError>
     requires { 0 < question.now.required }
-    ensures { IfOk result (TellsAsked automaton.now question.now domain limit) }
+    ensures { IfOk result (TellsAsked automaton.now question.now limit) }
 {
     let mut memory = Memory::new(alloc, automaton)?;
     let bytes = representatives(alloc, automaton)?;
     let leading = leading(alloc, automaton, 0)?;
-    let mut rows = first_rows(alloc, automaton, question, domain, &mut memory)?;
+    let mut rows = first_rows(alloc, automaton, question, &mut memory)?;
     let mut next = 0;
     while next < rows.len() {
         if rows.len() > limit {
@@ -114,7 +119,6 @@ pub fn ask(
             alloc,
             automaton,
             question,
-            domain,
             &bytes,
             &leading,
             &mut rows,
@@ -131,19 +135,17 @@ fn first_rows(
     alloc: Global,
     automaton: &Nfa,
     question: &Question,
-    domain: Domain,
     memory: &mut Memory,
 ) -> Result<Rows, AllocError>
     requires { HasRoom automaton.now memory.old }
     ensures room { HasRoom automaton.now memory.new }
-    ensures rows { IfOk result (AreRows automaton.now question.now domain) }
+    ensures rows { IfOk result (AreRows automaton.now question.now) }
     ensures before { IfOk result (λ rows. CameBefore rows 0) }
 {
-    let _question = question;
     automaton.start(&mut memory.from);
     let states = states_of(alloc, &memory.from, automaton.state_count())?;
     let mut rows = Rows::new(alloc);
-    let place = domain.first_place();
+    let place = question.domain.first_place();
     rows.add(Row { place, states }, Origin { row: 0, byte: 0 })?;
     Ok(rows)
 }
@@ -222,12 +224,12 @@ fn next_row(
     Ok(Some(Row { place, states }))
 }
 
-/// Adds the rows that bytes lead to from a row. The bytes are one of each class of bytes that are read alike.
+/// Adds the rows that bytes lead to from a row, and from which a text leads to an end of the index 0. The bytes are one of each
+/// class of bytes that are read alike.
 fn expand(
     alloc: Global,
     automaton: &Nfa,
     question: &Question,
-    domain: Domain,
     bytes: &[u8],
     leading: &[bool],
     rows: &mut Rows,
@@ -236,7 +238,7 @@ fn expand(
 ) -> Result<(), AllocError>
     // The memory has room for the automaton. The row is one of those of a search so far, none of which came from a row after it.
     requires room { HasRoom automaton.now memory.old }
-    requires rows { AreRows automaton.now question.now domain rows.old }
+    requires rows { AreRows automaton.now question.now rows.old }
     requires number { number < length rows.old.seen.keys }
     requires before { CameBefore rows.old (number + 1) }
 
@@ -248,7 +250,7 @@ fn expand(
 
     // After success the rows are as required above, and the memory is in any case.
     ensures room { HasRoom automaton.now memory.new }
-    ensures rows { OnOk result (AreRows automaton.now question.now domain rows.new) }
+    ensures rows { OnOk result (AreRows automaton.now question.now rows.new) }
     ensures before { OnOk result (CameBefore rows.new (number + 1)) }
 
     // After success each row is still there. A text that is wanted from this row is wanted, without its first byte, from the
@@ -257,49 +259,16 @@ fn expand(
     ensures followed { OnOk result (IsFollowed automaton.now question.now rows.new number) }
 {
     for byte in bytes {
-        add_next(
-            alloc, automaton, question, domain, leading, rows, number, *byte, memory,
-        )?;
-    }
-    Ok(())
-}
-
-/// Adds the row that a byte leads to from a row, unless it is there, or no text leads from it to an end of the index 0.
-fn add_next(
-    alloc: Global,
-    automaton: &Nfa,
-    question: &Question,
-    domain: Domain,
-    leading: &[bool],
-    rows: &mut Rows,
-    number: usize,
-    byte: u8,
-    memory: &mut Memory,
-) -> Result<(), AllocError>
-    // The memory has room for the automaton. The row is one of those of a search so far, none of which came from a row after it.
-    requires room { HasRoom automaton.now memory.old }
-    requires rows { AreRows automaton.now question.now domain rows.old }
-    requires number { number < length rows.old.seen.keys }
-    requires before { CameBefore rows.old (number + 1) }
-
-    // A wanted path leads to an end of the index 0, and `leading` marks each state from which a text may lead there.
-    requires required { 0 < question.now.required }
-    requires leading { AreLeading automaton.now 0 leading.now }
-
-    // After success the rows are as required above, and the memory is in any case.
-    ensures room { HasRoom automaton.now memory.new }
-    ensures rows { OnOk result (AreRows automaton.now question.now domain rows.new) }
-    ensures before { OnOk result (CameBefore rows.new (number + 1)) }
-
-    // After success each row is still there. A text that begins with the byte and is wanted from this row is wanted, without the
-    // byte, from the first row, or from one that came from this row or an earlier one.
-    ensures kept { OnOk result (KeepsRows rows.old rows.new) }
-    ensures followed { OnOk result (IsFollowedBy automaton.now question.now rows.new number byte) }
-{
-    let _domain = domain;
-    if let Some(row) = next_row(alloc, automaton, question, rows.row(number), byte, memory)? {
-        if has_leading(leading, &row.states) {
-            rows.add(row, Origin { row: number, byte })?;
+        if let Some(row) = next_row(alloc, automaton, question, rows.row(number), *byte, memory)? {
+            if has_leading(leading, &row.states) {
+                rows.add(
+                    row,
+                    Origin {
+                        row: number,
+                        byte: *byte,
+                    },
+                )?;
+            }
         }
     }
     Ok(())

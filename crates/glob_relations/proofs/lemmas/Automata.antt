@@ -16,7 +16,10 @@ use Rattle.glob_relations.specs.Answers.{some_match, IsMissed, IsShared, TellsCo
 use Rattle.glob_relations.specs.declared.domain.Domain.{Domain}
 use Rattle.glob_relations.specs.inner.Automata.{SomeMatches, IsFor, under}
 use Rattle.glob_relations.specs.inner.Rows.{IsWantedText, TellsSearch}
-use Rattle.glob_relations.specs.inner.Told.{coverage_of, intersection_of}
+use Rattle.glob_relations.specs.declared.relations.Coverage.{Coverage}
+use Rattle.glob_relations.specs.declared.relations.Coverage.TheVariants.{Covered, Not, Unknown}
+use Rattle.glob_relations.specs.declared.relations.Intersection.{Intersection}
+use Rattle.glob_relations.specs.declared.relations.Intersection.TheVariants.{Disjoint, Both, Unknown as Undecided}
 use Rattle.glob_relations.specs.declared.search.Answer.{Answer}
 use Rattle.glob_relations.specs.declared.search.Answer.TheVariants.{Found, Nothing, Limit}
 use Rattle.glob_relations.proofs.lemmas.Domains.{is_in}
@@ -107,6 +110,12 @@ module _ {A : Type 0} (matches : A → List ℕ → Bool) (m : NfaValue) (x : A)
         ),
   )
 
+-- what an answer of the search tells of an item and those that may cover it
+abbrev pub coverage_of : Answer → Coverage
+coverage_of (Found path) = Not path
+coverage_of Nothing = Covered
+coverage_of Limit = Unknown
+
 module _ {A : Type 0} (matches : A → List ℕ → Bool) (m : NfaValue) (x : A) (by : List A) (domain : Domain) (is : IsFor matches ((x, 0) ∷ under 1 by) m) where
   missed : (path : List ℕ) → IsWantedText m 1 domain path ↔ IsMissed matches x by domain path
   missed path = wanted_missed matches m x by domain path
@@ -128,6 +137,11 @@ module _ {A : Type 0} (matches : A → List ℕ → Bool) (m : NfaValue) (x : A)
   told_covering limit Limit more = (m, is, more)
 
 -- ---- two globs
+
+abbrev pub intersection_of : Answer → Intersection
+intersection_of (Found path) = Both path
+intersection_of Nothing = Disjoint
+intersection_of Limit = Undecided
 
 module _ (m : NfaValue) (a b : GlobValue) (domain : Domain) (is : IsFor glob_matches ((a, 0) ∷ (b, 1) ∷ []) m) where
   -- the paths that the search wants are those that both match

@@ -3,7 +3,6 @@ use Rattle.std.proofs.Common.{◌≡◌, ℕ, ◌+◌, Bool, true, false, List, 
 use Rattle.std.specs.Prelude.{◌↔◌, ◌==◌, Some, slice_get, if◌then◌else◌}
 use Rattle.std.proofs.lemmas.Bool.{eqb-true}
 use Rattle.byte_nfa.specs.Steps.{NfaValue, IsReached}
-use Rattle.glob_relations.specs.declared.domain.Domain.{Domain}
 use Rattle.glob_relations.specs.declared.domain.Kind.TheVariants.{Slash, Point, Zero, Other}
 use Rattle.glob_relations.specs.declared.search.Question.{Question}
 use Rattle.glob_relations.specs.inner.Closed.{IsClosedBy, IsClosed, IsOpen}
@@ -62,8 +61,8 @@ module _ (ignores : List Bool) (first : ℕ) where
       (open_next P (λ z. P (c ∷ z)) c y (λ z k. (λ h. h, λ h. h)) clear)
 
 -- what is asked where no folder is ignored
-pub asked_plain : (m : NfaValue) (n : Question) (domain : Domain) (y : List ℕ) → n.ignores.items ≡ [] → IsAskedText m n domain y ↔ IsWantedText m n.required domain y
-asked_plain m n domain y none = (
+pub asked_plain : (m : NfaValue) (n : Question) (y : List ℕ) → n.ignores.items ≡ [] → IsAskedText m n y ↔ IsWantedText m n.required n.domain y
+asked_plain m n y none = (
   λ (bytes, (ends, wanted, clear)). (bytes, (ends, wanted)),
   λ (bytes, (ends, wanted)). (bytes, (ends, wanted, λ folder rest is closed. closed_none 2 n.ignores.items (IsReached m folder) none closed)),
 )

@@ -9,7 +9,6 @@ use Rattle.byte_nfa.specs.Steps.{NfaValue, IsReached}
 use Rattle.ignore_pattern.specs.Patterns.{Pattern, pattern_matches}
 use Rattle.glob_relations.specs.Answers.{some_match}
 use Rattle.glob_relations.specs.Rules.{IsRival, IsDecided, IsDecidedAlone, IgnoresFolder, IsHiddenBy, IsHidden}
-use Rattle.glob_relations.specs.declared.domain.Domain.{Domain}
 use Rattle.glob_relations.specs.declared.search.Question.{Question}
 use Rattle.glob_relations.specs.inner.Closed.{IsClosed, IsClosedBy, IsClosedAbove, IsOpen, ignores_of}
 use Rattle.glob_relations.specs.Unused.{items_at}
@@ -181,9 +180,9 @@ module _ {A : Type 0} (matches : A → List ℕ → Bool) (p : A) (by ps : List 
   )
 
 -- the paths that the search wants are those about which the rule decides
-pub asked_decided : (ignore_case : Bool) (ps : List Pattern) (i : ℕ) (p : Pattern) (domain : Domain) (others : List ℕ) (all : (k : ℕ) → Contains others k ↔ IsRival ps i p k) (m : NfaValue) (n : Question)
-    → IsFor (pattern_matches ignore_case) (indexed_rules p (items_at ps others) ps) m → n.required ≡ 1 → n.ignores.items ≡ ignores_of ps → (path : List ℕ) → IsAskedText m n domain path ↔ IsDecided ignore_case ps i p domain path
-asked_decided ignore_case ps i p domain others all m n is required ignores path = (
+pub asked_decided : (ignore_case : Bool) (ps : List Pattern) (i : ℕ) (p : Pattern) (others : List ℕ) (all : (k : ℕ) → Contains others k ↔ IsRival ps i p k) (m : NfaValue) (n : Question)
+    → IsFor (pattern_matches ignore_case) (indexed_rules p (items_at ps others) ps) m → n.required ≡ 1 → n.ignores.items ≡ ignores_of ps → (path : List ℕ) → IsAskedText m n path ↔ IsDecided ignore_case ps i p n.domain path
+asked_decided ignore_case ps i p others all m n is required ignores path = (
   λ (bytes, (ends, wanted, clear)). (
     alone.0 (bytes, (ends, subst (λ (r : ℕ). IsWantedBy r (IsReached m path)) required wanted)),
     (shows bytes).0 (subst (λ (l : List Bool). IsOpen l 2 (IsReached m) path) ignores clear),
@@ -205,8 +204,8 @@ asked_decided ignore_case ps i p domain others all m n is required ignores path 
     shows : AllBytes path → IsOpen (ignores_of ps) 2 (IsReached m) path ↔ (IsHidden ignore_case ps path → ⊥)
     shows bytes = open_shows ignore_case 2 ps m (finds_rules (pattern_matches ignore_case) p by ps m is) path bytes
 
-    alone : IsWantedText m 1 domain path ↔ IsDecidedAlone ignore_case ps i p domain path
+    alone : IsWantedText m 1 n.domain path ↔ IsDecidedAlone ignore_case ps i p n.domain path
     alone =
-        let wanted = wanted_missed (pattern_matches ignore_case) m p by domain path (reaches_mine (pattern_matches ignore_case) p by ps m is path) (reaches_other (pattern_matches ignore_case) p by ps m is path) in
-        let decided = missed_decided ignore_case ps i p domain others all path in
+        let wanted = wanted_missed (pattern_matches ignore_case) m p by n.domain path (reaches_mine (pattern_matches ignore_case) p by ps m is path) (reaches_other (pattern_matches ignore_case) p by ps m is path) in
+        let decided = missed_decided ignore_case ps i p n.domain others all path in
         (λ h. decided.0 (wanted.0 h), λ h. wanted.1 (decided.1 h))

@@ -8,7 +8,6 @@ use Rattle.std.proofs.lemmas.Option.{slice_get_within}
 use Rattle.bit_sets.specs.Texts.{AllBytes}
 use Rattle.byte_nfa.specs.Runs.{size}
 use Rattle.byte_nfa.specs.Steps.{NfaValue, IsReached}
-use Rattle.glob_relations.specs.declared.domain.Domain.{Domain}
 use Rattle.glob_relations.specs.declared.rows.Row.{Row}
 use Rattle.glob_relations.specs.declared.rows.Rows.{Rows}
 use Rattle.glob_relations.specs.declared.rows.Origin.{Origin}
@@ -71,8 +70,8 @@ wants_past m n row b y (inl none) (ends, w, clear) = true≢false (sym (subst (�
 wants_past m n row b y (inr (is, closed)) (ends, w, clear) = clear [] y (ap (λ (c : ℕ). c ∷ y) is) closed
 
 -- what is wanted from the row in which paths begin is wanted
-pub wants_begins : (m : NfaValue) (n : Question) (domain : Domain) (row : Row) (y : List ℕ) → IsFirstRow m domain row → WantsRow m n row y ↔ WantsFrom m n domain y
-wants_begins m n domain row y (place, accepts) =
+pub wants_begins : (m : NfaValue) (n : Question) (row : Row) (y : List ℕ) → IsFirstRow m n.domain row → WantsRow m n row y ↔ WantsFrom m n y
+wants_begins m n row y (place, accepts) =
     let P : List ℕ → ℕ → Type 0 = AcceptsIn m row.states.items in
     let Q : List ℕ → ℕ → Type 0 = IsReached m in
     let wanted = wanted_iff n.required (P y) (Q y) (accepts y) in (
@@ -132,11 +131,11 @@ module _ (old new : Rows) (row : Row) (origin : Origin) where
     wants,
   )
 
-  module _ (m : NfaValue) (n : Question) (domain : Domain) where
+  module _ (m : NfaValue) (n : Question) where
     came_kept : (i : ℕ) (r : Row) (o : Origin) → KeepsRows old new → CameFrom m n old i r o → CameFrom m n new i r o
     came_kept i r o keeps (p, low, byte, has, goes) = (p, low, byte, keeps.0 o.row p has, goes)
 
-    pub adds_sound : AddsRow old new row origin → AreStates (size m) row.states.items → CameFrom m n old (length old.seen.keys) row origin → CameBefore old (origin.row + 1) → AreRows m n domain old → AreRows m n domain new
+    pub adds_sound : AddsRow old new row origin → AreStates (size m) row.states.items → CameFrom m n old (length old.seen.keys) row origin → CameBefore old (origin.row + 1) → AreRows m n old → AreRows m n new
     adds_sound (inl (keys, origins, there)) small from low is = record {
       some = subst (λ (ks : List Row). 0 < length ks) (sym keys) is.some;
       len = ap length origins ∙ is.len ∙ sym (ap length keys);
@@ -158,7 +157,7 @@ module _ (old new : Rows) (row : Row) (origin : Origin) where
       some = omega (arith, more);
       len = omega (arith, more, more_origins, is.len);
       below = λ i r at. ⊎_elim {C = AreStates (size m) r.states.items} (λ h. is.below i r h) (λ (e, same). subst (λ (q : Row). AreStates (size m) q.states.items) (sym same) small) (before i r at);
-      begins = λ r at. ⊎_elim {C = IsFirstRow m domain r} (λ h. is.begins r h) (λ (e, same). let some = is.some in absurd (omega arith)) (before 0 r at);
+      begins = λ r at. ⊎_elim {C = IsFirstRow m n.domain r} (λ h. is.begins r h) (λ (e, same). let some = is.some in absurd (omega arith)) (before 0 r at);
       came = λ i r o pos at came. ⊎_elim {C = CameFrom m n new i r o}
           (λ h. ⊎_elim {C = CameFrom m n new i r o}
           (λ g. came_kept i r o keeps (is.came i r o pos h g))
@@ -198,7 +197,7 @@ module _ (old new : Rows) (row : Row) (origin : Origin) where
         came_before i o at = get_cases old.origins.items origin i o (subst (λ (os : List Origin). slice_get os i ≡ Some o) origins at)
 
     -- the first row
-    pub first_sound : AddsRow old new row origin → old.seen.keys ≡ [] → old.origins.items ≡ [] → AreStates (size m) row.states.items → IsFirstRow m domain row → AreRows m n domain new
+    pub first_sound : AddsRow old new row origin → old.seen.keys ≡ [] → old.origins.items ≡ [] → AreStates (size m) row.states.items → IsFirstRow m n.domain row → AreRows m n new
     first_sound (inl (keys, origins, there)) none nothing small begins =
         let (i, r, at, place, states) = there in
         absurd (no_row i r (subst (λ (ks : List Row). slice_get ks i ≡ Some r) none at))
@@ -209,7 +208,7 @@ module _ (old new : Rows) (row : Row) (origin : Origin) where
       some = rw one (omega arith);
       len = rw (one, one_origin) refl;
       below = λ i r at. subst (λ (q : Row). AreStates (size m) q.states.items) (sym (is_row i r at)) small;
-      begins = λ r at. subst (λ (q : Row). IsFirstRow m domain q) (sym (is_row 0 r at)) begins;
+      begins = λ r at. subst (λ (q : Row). IsFirstRow m n.domain q) (sym (is_row 0 r at)) begins;
       came = λ i r o pos at came. let lt = slice_get_within (row ∷ []) i r (subst (λ (ks : List Row). slice_get ks i ≡ Some r) one at) in absurd (omega arith);
       order = λ i j o p pos le at there. let lt = slice_get_within (origin ∷ []) i o (subst (λ (os : List Origin). slice_get os i ≡ Some o) one_origin at) in absurd (omega arith);
     }
@@ -267,10 +266,10 @@ module _ (m : NfaValue) (n : Question) where
       let (j, r, has, next', w) = (done i (omega arith)).0 b byte row at y wants in
       none_wanted rows next done le y bytes j r has w
 
-  pub nothing_wanted : (domain : Domain) (rows : Rows) (next : ℕ) → AreRows m n domain rows → AreDone m n rows next → length rows.seen.keys ≤ next → (y : List ℕ) → IsAskedText m n domain y → ⊥
-  nothing_wanted domain rows next is done le y (bytes, wants) =
+  pub nothing_wanted : (rows : Rows) (next : ℕ) → AreRows m n rows → AreDone m n rows next → length rows.seen.keys ≤ next → (y : List ℕ) → IsAskedText m n y → ⊥
+  nothing_wanted rows next is done le y (bytes, wants) =
       let (row, at) = get_some rows.seen.keys 0 is.some in
-      none_wanted rows next done le y bytes 0 row at ((wants_begins m n domain row y (is.begins row at)).1 wants)
+      none_wanted rows next done le y bytes 0 row at ((wants_begins m n row y (is.begins row at)).1 wants)
 
 -- a row that is not the first is one deeper than that which it came from
 pub origin_deep : (rows : Rows) (i d : ℕ) (origin : Origin) → 0 < i → HasOrigin rows i origin → IsDeep rows d i → (e : ℕ) × IsDeep rows e origin.row × (suc e ≡ d)
@@ -283,7 +282,7 @@ first_deep rows i zero first deep = refl
 first_deep rows i (suc d) first (pos, deep) = absurd (omega arith)
 
 -- Rows are in the order of their depths.
-module _ (m : NfaValue) (n : Question) (domain : Domain) (rows : Rows) (is : AreRows m n domain rows) where
+module _ (m : NfaValue) (n : Question) (rows : Rows) (is : AreRows m n rows) where
   deep_order : (d e i j : ℕ) → IsDeep rows d i → IsDeep rows e j → i ≤ j → d ≤ e
   deep_order zero e i j deep deep' le = omega arith
   deep_order (suc d) zero i j (pos, deep) deep' le = absurd (omega arith)
@@ -332,21 +331,21 @@ module _ (m : NfaValue) (n : Question) (domain : Domain) (rows : Rows) (is : Are
       (cases_lt i next)
 
   -- a path to the row is a shortest one
-  pub found_shortest : (next : ℕ) (row : Row) (path : List ℕ) → AreDone m n rows next → HasRow rows next row → IsAskedText m n domain path → ((d : ℕ) → IsDeep rows d next → length path ≡ d)
-      → IsShortest (IsAskedText m n domain) path
+  pub found_shortest : (next : ℕ) (row : Row) (path : List ℕ) → AreDone m n rows next → HasRow rows next row → IsAskedText m n path → ((d : ℕ) → IsDeep rows d next → length path ≡ d)
+      → IsShortest (IsAskedText m n) path
   found_shortest next row path done at wanted long = (
     wanted,
     λ y (bytes, wants).
         let (d, deep) = depth_of next (slice_get_within rows.seen.keys next row at) in
         let (first, begins) = get_some rows.seen.keys 0 is.some in
-        let least = wanted_long next d done deep y bytes 0 0 first begins refl ((wants_begins m n domain first y (is.begins first begins)).1 wants) in
+        let least = wanted_long next d done deep y bytes 0 0 first begins refl ((wants_begins m n first y (is.begins first begins)).1 wants) in
         let same = long d deep in
         omega arith,
   )
 
 -- where rows came from
-pub origin_low : (m : NfaValue) (n : Question) (domain : Domain) (rows : Rows) → AreRows m n domain rows → (i : ℕ) (origin : Origin) → 0 < i → slice_get rows.origins.items i ≡ Some origin → (origin.row < i) × (origin.byte < 256)
-origin_low m n domain rows is i origin pos from =
+pub origin_low : (m : NfaValue) (n : Question) (rows : Rows) → AreRows m n rows → (i : ℕ) (origin : Origin) → 0 < i → slice_get rows.origins.items i ≡ Some origin → (origin.row < i) × (origin.byte < 256)
+origin_low m n rows is i origin pos from =
     let lt = slice_get_within rows.origins.items i origin from in
     let len = is.len in
     let (row, at) = get_some rows.seen.keys i (omega arith) in
@@ -358,28 +357,28 @@ all_push [] b all lt = (lt, tt)
 all_push (x ∷ xs) b (first, rest) lt = (first, all_push xs b rest lt)
 
 -- some path leads to each row
-led_to : (m : NfaValue) (n : Question) (domain : Domain) (rows : Rows) → AreRows m n domain rows → (bound i : ℕ) → i < bound → (row : Row) → HasRow rows i row → IsLedTo m domain row
-led_to m n domain rows is zero i lt row at = absurd (omega arith)
-led_to m n domain rows is (suc bound) zero lt row at =
+led_to : (m : NfaValue) (n : Question) (rows : Rows) → AreRows m n rows → (bound i : ℕ) → i < bound → (row : Row) → HasRow rows i row → IsLedTo m n.domain row
+led_to m n rows is zero i lt row at = absurd (omega arith)
+led_to m n rows is (suc bound) zero lt row at =
     let (place, accepts) = is.begins row at in
     ([], tt, λ z. ap (λ p. ends_in (Some p) z) place, accepts)
-led_to m n domain rows is (suc bound) (suc i) lt row at =
+led_to m n rows is (suc bound) (suc i) lt row at =
     let within = slice_get_within rows.seen.keys (suc i) row at in
     let len = is.len in
     let (o, from) = get_some rows.origins.items (suc i) (omega arith) in
     let (p, low, byte, has, goes) = is.came (suc i) row o (omega arith) at from in
-    let (y, bytes, ends, accepts) = led_to m n domain rows is bound o.row (omega arith) p has in (
+    let (y, bytes, ends, accepts) = led_to m n rows is bound o.row (omega arith) p has in (
       y ++ o.byte ∷ [],
       all_push y o.byte bytes byte,
-      λ z. sym (ap (λ q. ends_in q z) goes.0) ∙ ends (o.byte ∷ z) ∙ sym (ap (ends_in (Some (first_place domain))) (append_assoc y (o.byte ∷ []) z)),
+      λ z. sym (ap (λ q. ends_in q z) goes.0) ∙ ends (o.byte ∷ z) ∙ sym (ap (ends_in (Some (first_place n.domain))) (append_assoc y (o.byte ∷ []) z)),
       λ z k. subst (λ (l : List ℕ). AcceptsIn m row.states.items z k ↔ IsReached m l k) (sym (append_assoc y (o.byte ∷ []) z))
           (λ h. (accepts (o.byte ∷ z) k).0 ((goes.1 z k).1 h), λ h. (goes.1 z k).0 ((accepts (o.byte ∷ z) k).1 h)),
     )
 
-pub more_rows : (m : NfaValue) (n : Question) (domain : Domain) (rows : Rows) (limit : ℕ) → AreRows m n domain rows → limit < length rows.seen.keys → AreDifferent rows.seen.keys → HasMoreRows m domain limit
-more_rows m n domain rows limit is more different = (
+pub more_rows : (m : NfaValue) (n : Question) (rows : Rows) (limit : ℕ) → AreRows m n rows → limit < length rows.seen.keys → AreDifferent rows.seen.keys → HasMoreRows m n.domain limit
+more_rows m n rows limit is more different = (
   rows.seen.keys,
   more,
   different,
-  λ i row at. (is.below i row at, led_to m n domain rows is (i + 1) i (omega arith) row at),
+  λ i row at. (is.below i row at, led_to m n rows is (i + 1) i (omega arith) row at),
 )

@@ -1,6 +1,7 @@
 -- Items at indexes, and which of them are needed.
 use Rattle.std.proofs.Common.{◌≡◌, ◌≢◌, Bool, ℕ, zero, suc, ◌+◌, ◌-◌, ◌<◌, ◌≤◌, ◌⊎◌, true≢false, List, [], ◌∷◌, length, IsTrue, refl, ap, sym, subst, ◌∙◌, arith}
 use Rattle.std.specs.Prelude.{IsFalse, Contains, Option, Some, None, slice_get, slice_index}
+use Rattle.std.specs.List.{range_with_len}
 use Rattle.std.proofs.lemmas.Bool.{cases_lt, or_cases}
 use Rattle.std.proofs.Math.Logic.{⊎_elim}
 use Rattle.byte_nfa.proofs.lemmas.Pass.{or_first, or_second}
@@ -160,3 +161,15 @@ module _ {A : Type 0} (matches : A → List ℕ → Bool) where
 pub rivals_below : (decides : Decides) (i count k : ℕ) → i < count → Contains (rivals decides i count) k → k < count
 rivals_below First i count k lt at = let low = range_below 0 i k at in omega arith
 rivals_below Last i count k lt at = let low = range_below (i + 1) (count - (i + 1)) k at in omega arith
+
+module _ {A : Type 0} where
+  items_shift : (x : A) (xs : List A) (a n : ℕ) → items_at (x ∷ xs) (range_with_len (suc a) n) ≡ items_at xs (range_with_len a n)
+  items_shift x xs a zero = refl
+  items_shift x xs a (suc n) =
+      let next : suc a + 1 ≡ suc (a + 1) = omega arith in
+      ap (λ (b : ℕ). with_item (slice_get xs a) (items_at (x ∷ xs) (range_with_len b n))) next ∙ ap (with_item (slice_get xs a)) (items_shift x xs (a + 1) n)
+
+  -- the items of a list at all of its indexes
+  pub items_all : (xs : List A) → items_at xs (range_with_len 0 (length xs)) ≡ xs
+  items_all [] = refl
+  items_all (x ∷ xs) = ap (λ (ys : List A). x ∷ ys) (items_shift x xs 0 (length xs) ∙ items_all xs)

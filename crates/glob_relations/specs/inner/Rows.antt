@@ -39,8 +39,8 @@ abbrev pub WantsRow : NfaValue → Question → Row → List ℕ → Type 0
 WantsRow m n row y = IsTrue (ends_in (Some row.place) y) × IsWantedBy n.required (AcceptsIn m row.states.items y) × IsOpen n.ignores.items first_rule (AcceptsIn m row.states.items) y
 
 -- from the start the text leads to a wanted end, and not below an ignored folder
-abbrev pub WantsFrom : NfaValue → Question → Domain → List ℕ → Type 0
-WantsFrom m n domain y = IsTrue (ends_in (Some (first_place domain)) y) × IsWantedBy n.required (IsReached m y) × IsOpen n.ignores.items first_rule (IsReached m) y
+abbrev pub WantsFrom : NfaValue → Question → List ℕ → Type 0
+WantsFrom m n y = IsTrue (ends_in (Some (first_place n.domain)) y) × IsWantedBy n.required (IsReached m y) × IsOpen n.ignores.items first_rule (IsReached m) y
 
 -- the byte is a `/`, and the row is that of an ignored folder
 abbrev pub IsStopped : NfaValue → Question → Row → ℕ → Type 0
@@ -88,11 +88,11 @@ abbrev pub CameFrom : NfaValue → Question → Rows → ℕ → Row → Origin 
 CameFrom m n rows i row origin = (p : Row) × (origin.row < i) × (origin.byte < 256) × HasRow rows origin.row p × GoesTo m n p origin.byte row
 
 -- the invariant of the rows so far
-pub record AreRows (m : NfaValue) (n : Question) (domain : Domain) (rows : Rows) : Type 0 where
+pub record AreRows (m : NfaValue) (n : Question) (rows : Rows) : Type 0 where
   pub some : 0 < length rows.seen.keys
   pub len : length rows.origins.items ≡ length rows.seen.keys
   pub below : (i : ℕ) (row : Row) → HasRow rows i row → AreStates (size m) row.states.items
-  pub begins : (row : Row) → HasRow rows 0 row → IsFirstRow m domain row
+  pub begins : (row : Row) → HasRow rows 0 row → IsFirstRow m n.domain row
   pub came : (i : ℕ) (row : Row) (origin : Origin) → 0 < i → HasRow rows i row → HasOrigin rows i origin → CameFrom m n rows i row origin
   pub order : (i j : ℕ) (o p : Origin) → 0 < i → i ≤ j → HasOrigin rows i o → HasOrigin rows j p → o.row ≤ p.row
 
@@ -149,8 +149,8 @@ abbrev pub AreRepresentatives : NfaValue → List ℕ → Type 0
 AreRepresentatives m bytes = (c : ℕ) → c < 256 → (b : ℕ) × Contains bytes b × AreAlike m b c
 
 -- the text consists of bytes, and leads from the start to a wanted end, and not below an ignored folder
-abbrev pub IsAskedText : NfaValue → Question → Domain → List ℕ → Type 0
-IsAskedText m n domain y = AllBytes y × WantsFrom m n domain y
+abbrev pub IsAskedText : NfaValue → Question → List ℕ → Type 0
+IsAskedText m n y = AllBytes y × WantsFrom m n y
 
 -- the same, where no folder is ignored
 abbrev pub LeadsFrom : NfaValue → ℕ → Domain → List ℕ → Type 0
@@ -166,8 +166,8 @@ TellsText P m domain limit (Found path) = IsShortest P path.items
 TellsText P m domain limit Nothing = (y : List ℕ) → P y → ⊥
 TellsText P m domain limit Limit = HasMoreRows m domain limit
 
-abbrev pub TellsAsked : NfaValue → Question → Domain → ℕ → Answer → Type 0
-TellsAsked m n domain limit answer = TellsText (IsAskedText m n domain) m domain limit answer
+abbrev pub TellsAsked : NfaValue → Question → ℕ → Answer → Type 0
+TellsAsked m n limit answer = TellsText (IsAskedText m n) m n.domain limit answer
 
 abbrev pub TellsSearch : NfaValue → ℕ → Domain → ℕ → Answer → Type 0
 TellsSearch m required domain limit answer = TellsText (IsWantedText m required domain) m domain limit answer

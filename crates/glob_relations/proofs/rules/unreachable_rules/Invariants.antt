@@ -8,5 +8,5 @@ use Rattle.glob_relations.proofs.rules.unreachable_rules.Given as goal
 abbrev pub invariant-loop-i : goal.invariant-loop-i
 invariant-loop-i l = record {
   len : length l.all.items ≡ l.i;
-  each : (i : ℕ) (p : Pattern) (told : RuleReachability) → slice_get l.patterns i ≡ Some p → slice_get l.all.items i ≡ Some told → TellsRule l.ignore_case l.patterns i p l.domain l.limit told;
+  each : (i : ℕ) (p : Pattern) (told : RuleReachability) → slice_get l.patterns i ≡ Some p → slice_get l.all.items i ≡ Some told → TellsRule l.ignore_case l.patterns i p l.fn.domain l.limit told;
 }

@@ -4,21 +4,21 @@ use Rattle.glob_relations.proofs.lemmas.Walks.{kept_within}
 use Rattle.glob_relations.proofs.search.ask.Goals as goal
 
 pub returns-then-len-limit : goal.returns-then-len-limit
-returns-then-len-limit c = more_rows c.args.automaton.now c.args.question.now c.args.domain c.loop-next.rows c.args.limit c.loop-next.invariant.rows (omega arith) c.len.ensures.different
+returns-then-len-limit c = more_rows c.args.automaton.now c.args.question.now c.loop-next.rows c.args.limit c.loop-next.invariant.rows (omega arith) c.len.ensures.different
 
 pub is_row_wanted-requires-clause-states : goal.is_row_wanted-requires-clause-states
 is_row_wanted-requires-clause-states c = c.loop-next.invariant.rows.below c.loop-next.next c.row.result.now c.row.ensures
 
 pub path_to-requires-clause-rows : goal.path_to-requires-clause-rows
-path_to-requires-clause-rows c = origin_low c.args.automaton.now c.args.question.now c.args.domain c.loop-next.rows c.loop-next.invariant.rows
+path_to-requires-clause-rows c = origin_low c.args.automaton.now c.args.question.now c.loop-next.rows c.loop-next.invariant.rows
 
 pub returns-then-is_row_wanted : goal.returns-then-is_row_wanted
 returns-then-is_row_wanted c =
     let m = c.args.automaton.now in
     let n = c.args.question.now in
     let inv = c.loop-next.invariant in
-    let leads = c.in_ok-path.ensures.path m n c.args.domain c.row.result.now inv.rows c.row.ensures (c.is_row_wanted.ensures.wanted.0 c.if-is_row_wanted.true) in
-    found_shortest m n c.args.domain c.loop-next.rows inv.rows c.loop-next.next c.row.result.now c.in_ok-path.path.items inv.done c.row.ensures (c.in_ok-path.ensures.bytes, leads) c.in_ok-path.ensures.length
+    let leads = c.in_ok-path.ensures.path m n c.row.result.now inv.rows c.row.ensures (c.is_row_wanted.ensures.wanted.0 c.if-is_row_wanted.true) in
+    found_shortest m n c.loop-next.rows inv.rows c.loop-next.next c.row.result.now c.in_ok-path.path.items inv.done c.row.ensures (c.in_ok-path.ensures.bytes, leads) c.in_ok-path.ensures.length
 
 pub expand-requires-clause-before : goal.expand-requires-clause-before
 expand-requires-clause-before c = λ i origin pos at. let low = c.loop-next.invariant.before i origin pos at in omega arith
@@ -43,4 +43,4 @@ loop-next-preserved c =
     }
 
 pub returns : goal.returns
-returns c = nothing_wanted c.args.automaton.now c.args.question.now c.args.domain c.loop-next.rows c.loop-next.next c.loop-next.invariant.rows c.loop-next.invariant.done (omega arith)
+returns c = nothing_wanted c.args.automaton.now c.args.question.now c.loop-next.rows c.loop-next.next c.loop-next.invariant.rows c.loop-next.invariant.done (omega arith)

@@ -6,7 +6,7 @@ use Rattle.glob_relations.proofs.search.ask.Given as goal
 abbrev pub invariant-loop-next : goal.invariant-loop-next
 invariant-loop-next l = record {
   room : HasRoom l.automaton l.memory;
-  rows : AreRows l.automaton l.question l.domain l.rows;
+  rows : AreRows l.automaton l.question l.rows;
   before : CameBefore l.rows l.next;
   within : l.next ≤ length l.rows.seen.keys;
   done : AreDone l.automaton l.question l.rows l.next;

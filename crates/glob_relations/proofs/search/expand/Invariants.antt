@@ -7,7 +7,7 @@ use Rattle.glob_relations.proofs.search.expand.Given as goal
 abbrev pub invariant-loop-byte : goal.invariant-loop-byte
 invariant-loop-byte l = record {
   room : HasRoom l.automaton l.memory;
-  rows : AreRows l.automaton l.question l.domain l.rows;
+  rows : AreRows l.automaton l.question l.rows;
   before : CameBefore l.rows (l.number + 1);
   kept : KeepsRows l.fn.rows l.rows;
   number : l.number < length l.rows.seen.keys;

@@ -9,7 +9,7 @@ use Rattle.glob_relations.proofs.unused.least_cover.Goals as goal
 pub covering_at-requires : goal.covering_at-requires
 covering_at-requires g c = λ k at.
     let set = c.loop-i.set.items in
-    let fewer = rest_is c.in_ok-fewer.fewer.items set c.deref.result.now c.loop-i.i c.deref.ensures.value c.in_ok-fewer.ensures in
+    let fewer = rest_is c.remove.new.self.items set c.in_ok-fewer.fewer.items c.loop-i.i (c.in_ok-fewer.ensures.items ∙ c.deref.ensures.value) c.remove.ensures.by_index.2 in
     c.requires.within k (c.loop-i.invariant.cover.within k (contains_rest set c.loop-i.i k (subst (λ (xs : List ℕ). Contains xs k) (c.deref-in-loop-i.ensures.value ∙ fewer) at)))
 
 pub loop-i-init : goal.loop-i-init
@@ -26,7 +26,7 @@ loop-i-preserved-in-Covered g c =
     let domain = c.args.domain in
     let set = c.loop-i.set.items in
     let i = c.loop-i.i in
-    let fewer = rest_is c.in_ok-fewer.fewer.items set c.deref.result.now i c.deref.ensures.value c.in_ok-fewer.ensures in
+    let fewer = rest_is c.remove.new.self.items set c.in_ok-fewer.fewer.items i (c.in_ok-fewer.ensures.items ∙ c.deref.ensures.value) c.remove.ensures.by_index.2 in
     let ok = rw c.in-Covered.is at c.in_ok-covering_at.ensures in
     let len = length_rest set i (omega arith) in
     record {
@@ -44,7 +44,7 @@ loop-i-preserved g c =
     let set = c.loop-i.set.items in
     let i = c.loop-i.i in
     let now = c.deref-in-loop-i.result.now in
-    let fewer = rest_is c.in_ok-fewer.fewer.items set c.deref.result.now i c.deref.ensures.value c.in_ok-fewer.ensures in
+    let fewer = rest_is c.remove.new.self.items set c.in_ok-fewer.fewer.items i (c.in_ok-fewer.ensures.items ∙ c.deref.ensures.value) c.remove.ensures.by_index.2 in
     let ok = rw c.in-Not.is at c.in_ok-covering_at.ensures in
     record {
       within = omega arith;
@@ -56,7 +56,7 @@ loop-i-preserved g c =
 pub returns-in-Unknown : goal.returns-in-Unknown
 returns-in-Unknown g c =
     let set = c.loop-i.set.items in
-    let fewer = rest_is c.in_ok-fewer.fewer.items set c.deref.result.now c.loop-i.i c.deref.ensures.value c.in_ok-fewer.ensures in
+    let fewer = rest_is c.remove.new.self.items set c.in_ok-fewer.fewer.items c.loop-i.i (c.in_ok-fewer.ensures.items ∙ c.deref.ensures.value) c.remove.ensures.by_index.2 in
     let ok = rw c.in-Unknown.is at c.in_ok-covering_at.ensures in (
       c.deref-in-loop-i.result.now,
       λ k at. c.loop-i.invariant.cover.within k (contains_rest set c.loop-i.i k (subst (λ (xs : List ℕ). Contains xs k) (c.deref-in-loop-i.ensures.value ∙ fewer) at)),

@@ -12,7 +12,7 @@ loop-at-init c = rw c.new-path.ensures.items record {
   within = c.requires.number;
   bytes = tt;
   deep = λ depth deep. (depth, deep, omega arith);
-  leads = λ m n domain row is at wants. (row, at, wants);
+  leads = λ m n row is at wants. (row, at, wants);
 }
 
 pub loop-at-smaller : goal.loop-at-smaller
@@ -37,18 +37,18 @@ loop-at-preserved c =
           let (d, is, sum) = inv.deep depth deep in
           let (e, below, less) = origin_deep self c.loop-at.at d origin (omega arith) from is in
           (e, below, omega (arith, less, sum, ap length c.in_ok-push.ensures.items, length-append c.loop-at.path.items (origin.byte ∷ [])));
-      leads = λ m n domain row is at wants.
-          let (p, has, w) = inv.leads m n domain row is at wants in
+      leads = λ m n row is at wants.
+          let (p, has, w) = inv.leads m n row is at wants in
           let (q, lower, small, has', goes) = is.came c.loop-at.at p origin (omega arith) has from in
           (q, has', subst (WantsRow m n q) (sym turned) ((wants_goes m n q origin.byte p (reverse c.loop-at.path.items) goes).1 w));
     }
 
 pub returns-clause-path : goal.returns-clause-path
-returns-clause-path c = λ m n domain row is at wants.
-    let (p, has, w) = c.loop-at.invariant.leads m n domain row is at wants in
+returns-clause-path c = λ m n row is at wants.
+    let (p, has, w) = c.loop-at.invariant.leads m n row is at wants in
     let zero_is : c.loop-at.at ≡ 0 = omega arith in
     let first = subst (λ (i : ℕ). HasRow c.args.self.now i p) zero_is has in
-    subst (WantsFrom m n domain) (sym c.reverse.ensures.items) ((wants_begins m n domain p (reverse c.loop-at.path.items) (is.begins p first)).0 w)
+    subst (WantsFrom m n) (sym c.reverse.ensures.items) ((wants_begins m n p (reverse c.loop-at.path.items) (is.begins p first)).0 w)
 
 pub returns-clause-length : goal.returns-clause-length
 returns-clause-length c = λ depth deep.

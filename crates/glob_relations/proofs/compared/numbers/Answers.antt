@@ -1,7 +1,7 @@
 use Rattle.std.proofs.Common.{◌≡◌, ◌+◌, ◌-◌, ◌∷◌, ◌++◌, [], ap, sym, ◌∙◌, arith}
 use Rattle.std.specs.List.{range_with_len}
 use Rattle.glob_relations.proofs.lemmas.Indexes.{range_more}
-use Rattle.glob_relations.proofs.unused.numbers.Goals as goal
+use Rattle.glob_relations.proofs.compared.numbers.Goals as goal
 
 pub loop-k-init : goal.loop-k-init
 loop-k-init c =
