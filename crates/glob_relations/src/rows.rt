@@ -10,7 +10,7 @@ use std::alloc::{AllocError, Global};
 
 /// A row: the place of a path in its domain, and the states of an automaton that it leads to.
 #[derive(PartialEq, Eq, Hash, Drop)]
-pub struct Row {
+pub struct SearchRow {
     pub place: Place,
     pub states: Vec<usize>,
 }
@@ -25,7 +25,7 @@ pub struct Origin {
 /// Rows, each once, in the order of their additions.
 #[derive(Drop)]
 pub struct Rows {
-    pub seen: IndexSet<Row>,
+    pub seen: IndexSet<SearchRow>,
     /// The origin of each row. The origin of the first row means nothing.
     pub origins: Vec<Origin>,
 }
@@ -54,7 +54,7 @@ impl Rows {
     }
 
     /// Adds a row, unless it is there.
-    pub fn add(&mut self, row: Row, origin: Origin) -> Result<(), AllocError>
+    pub fn add(&mut self, row: SearchRow, origin: Origin) -> Result<(), AllocError>
         ensures { OnOk result (AddsRow self.old self.new row origin) }
     {
         let (_, is_new) = self.seen.insert_full(row)?;
@@ -65,7 +65,7 @@ impl Rows {
     }
 
     /// Returns a row by its number.
-    pub fn row(&self, number: usize) -> &Row
+    pub fn row(&self, number: usize) -> &SearchRow
         requires { number < length self.now.seen.keys }
         ensures { HasRow self.now number result.now }
     {
@@ -84,7 +84,7 @@ impl Rows {
         // In the rows of a search, the path is wanted if the row is. It consists of bytes, as many as led from the first row to
         // this one.
         ensures path { IfOk result
-            (λ path. (m : NfaValue) (n : Question) (row : Row)
+            (λ path. (m : NfaValue) (n : Question) (row : SearchRow)
             → AreRows m n self.now → HasRow self.now number row → WantsRow m n row []
             → WantsFrom m n path.items) }
         ensures bytes { IfOk result (λ path. AllBytes path.items) }

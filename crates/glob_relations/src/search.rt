@@ -14,7 +14,7 @@ use crate::domain::Domain;
 use crate::ignoring::ignoring_rule;
 use crate::leading::{has_leading, leading};
 use crate::pass::{ends_of, is_wanted, states_of, step};
-use crate::rows::{Origin, Row, Rows};
+use crate::rows::{Origin, Rows, SearchRow};
 use bit_sets::{IndexSet, StateSet};
 use byte_nfa::Nfa;
 use std::alloc::{AllocError, Global};
@@ -146,12 +146,12 @@ fn first_rows(
     let states = states_of(alloc, &memory.from, automaton.state_count())?;
     let mut rows = Rows::new(alloc);
     let place = question.domain.first_place();
-    rows.add(Row { place, states }, Origin { row: 0, byte: 0 })?;
+    rows.add(SearchRow { place, states }, Origin { row: 0, byte: 0 })?;
     Ok(rows)
 }
 
 /// Returns whether a path that leads to a row is wanted.
-fn is_row_wanted(automaton: &Nfa, question: &Question, row: &Row, memory: &mut Memory) -> bool
+fn is_row_wanted(automaton: &Nfa, question: &Question, row: &SearchRow, memory: &mut Memory) -> bool
     requires room { HasRoom automaton.now memory.old }
     requires states { AreStates (size automaton.now) row.now.states.items }
     ensures room { HasRoom automaton.now memory.new }
@@ -171,7 +171,7 @@ fn is_row_wanted(automaton: &Nfa, question: &Question, row: &Row, memory: &mut M
 fn is_stopped(
     automaton: &Nfa,
     question: &Question,
-    row: &Row,
+    row: &SearchRow,
     byte: u8,
     memory: &mut Memory,
 ) -> bool
@@ -195,10 +195,10 @@ fn next_row(
     alloc: Global,
     automaton: &Nfa,
     question: &Question,
-    row: &Row,
+    row: &SearchRow,
     byte: u8,
     memory: &mut Memory,
-) -> Result<Option<Row>, AllocError>
+) -> Result<Option<SearchRow>, AllocError>
     requires room { HasRoom automaton.now memory.old }
     requires states { AreStates (size automaton.now) row.now.states.items }
     ensures room { HasRoom automaton.now memory.new }
@@ -221,7 +221,7 @@ fn next_row(
         &mut memory.to,
     );
     let states = states_of(alloc, &memory.to, automaton.state_count())?;
-    Ok(Some(Row { place, states }))
+    Ok(Some(SearchRow { place, states }))
 }
 
 /// Adds the rows that bytes lead to from a row, and from which a text leads to an end of the index 0. The bytes are one of each

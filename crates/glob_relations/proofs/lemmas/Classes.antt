@@ -8,7 +8,7 @@ use Rattle.bit_sets.specs.Bytes.{has_byte}
 use Rattle.bit_sets.specs.declared.byte_set.ByteSet.{ByteSet}
 use Rattle.byte_nfa.specs.Steps.{NfaValue}
 use Rattle.byte_nfa.proofs.lemmas.Equivalent.{accepts_equivalent}
-use Rattle.glob_relations.specs.declared.rows.Row.{Row}
+use Rattle.glob_relations.specs.declared.rows.SearchRow.{SearchRow}
 use Rattle.glob_relations.specs.declared.search.Question.{Question}
 use Rattle.glob_relations.specs.inner.Places.{kind_of, after_kind, ends_in}
 use Rattle.glob_relations.specs.inner.Rows.{AcceptsIn, AreAlike, AreBoundaries, AreRepresentatives, BeginsClass, first_rule, WantsRow}
@@ -36,7 +36,7 @@ alike_sym : (m : NfaValue) (b c : ℕ) → AreAlike m b c → AreAlike m c b
 alike_sym m b c (same, kind) = (λ s. sym (same s), sym kind)
 
 -- what is wanted after a byte is wanted after one that is read alike
-pub wants_alike : (m : NfaValue) (n : Question) (row : Row) (b c : ℕ) (y : List ℕ) → AreAlike m b c → WantsRow m n row (c ∷ y) → WantsRow m n row (b ∷ y)
+pub wants_alike : (m : NfaValue) (n : Question) (row : SearchRow) (b c : ℕ) (y : List ℕ) → AreAlike m b c → WantsRow m n row (c ∷ y) → WantsRow m n row (b ∷ y)
 wants_alike m n row b c y alike (ends, wanted, clear) =
     let P : List ℕ → ℕ → Type 0 = AcceptsIn m row.states.items in
     let same : (z : List ℕ) (k : ℕ) → P (b ∷ z) k ↔ P (c ∷ z) k = λ z k. (accepts_alike m row.states.items b c alike z k, accepts_alike m row.states.items c b (alike_sym m b c alike) z k) in (

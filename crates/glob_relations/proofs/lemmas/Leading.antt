@@ -5,7 +5,7 @@ use Rattle.std.proofs.lemmas.Bool.{cases_lt, eqb-true, or_cases}
 use Rattle.std.proofs.Math.Logic.{⊎_elim}
 use Rattle.bit_sets.specs.Numbers.{has_number}
 use Rattle.byte_nfa.specs.Steps.{State, bytes_state, union_state, loop_state, match_state, state, HasNumber, Accepts, ends, by_byte, by_skip, by_out, by_stay, NfaValue}
-use Rattle.glob_relations.specs.declared.rows.Row.{Row}
+use Rattle.glob_relations.specs.declared.rows.SearchRow.{SearchRow}
 use Rattle.glob_relations.specs.declared.search.Question.{Question}
 use Rattle.glob_relations.specs.inner.Leading.{mark, LeadsOn, AreLeading}
 use Rattle.glob_relations.specs.inner.Rows.{WantsRow}
@@ -32,7 +32,7 @@ listed_contained t (x ∷ xs) (inl is) = (0, omega arith, sym is)
 listed_contained t (x ∷ xs) (inr other) = let (i, lt, is) = listed_contained t xs other in (suc i, omega arith, is)
 
 -- nothing is wanted from a row whose states all have the mark false
-pub dead_row : (m : NfaValue) (n : Question) (marks : List Bool) (row : Row) (y : List ℕ) → 0 < n.required → AreLeading m 0 marks → ((t : ℕ) → Contains row.states.items t → IsTrue (mark marks t) → ⊥) → WantsRow m n row y → ⊥
+pub dead_row : (m : NfaValue) (n : Question) (marks : List Bool) (row : SearchRow) (y : List ℕ) → 0 < n.required → AreLeading m 0 marks → ((t : ℕ) → Contains row.states.items t → IsTrue (mark marks t) → ⊥) → WantsRow m n row y → ⊥
 dead_row m n marks row y some are none (ends', (all, last), clear) =
     let (t, at, h) = all 0 some in
     none t (number_contained t row.states.items at) (leads m 0 marks are t y h)

@@ -8,7 +8,7 @@ use Rattle.std.proofs.lemmas.Option.{slice_get_within}
 use Rattle.bit_sets.specs.Texts.{AllBytes}
 use Rattle.byte_nfa.specs.Runs.{size}
 use Rattle.byte_nfa.specs.Steps.{NfaValue, IsReached}
-use Rattle.glob_relations.specs.declared.rows.Row.{Row}
+use Rattle.glob_relations.specs.declared.rows.SearchRow.{SearchRow}
 use Rattle.glob_relations.specs.declared.rows.Rows.{Rows}
 use Rattle.glob_relations.specs.declared.rows.Origin.{Origin}
 use Rattle.glob_relations.specs.declared.search.Question.{Question}
@@ -47,7 +47,7 @@ module _ {X : Type 0} where
   get_same xs i x y e f = some_is x y (sym e ∙ f)
 
 -- a row with the same place and the same states
-pub wants_same : (m : NfaValue) (n : Question) (r row : Row) (y : List ℕ) → r.place ≡ row.place → r.states.items ≡ row.states.items → WantsRow m n row y → WantsRow m n r y
+pub wants_same : (m : NfaValue) (n : Question) (r row : SearchRow) (y : List ℕ) → r.place ≡ row.place → r.states.items ≡ row.states.items → WantsRow m n row y → WantsRow m n r y
 wants_same m n r row y place states (ends, wanted, clear) = (
   subst (λ p. IsTrue (ends_in (Some p) y)) (sym place) ends,
   subst (λ (l : List ℕ). IsWantedBy n.required (AcceptsIn m l y)) (sym states) wanted,
@@ -55,7 +55,7 @@ wants_same m n r row y place states (ends, wanted, clear) = (
 )
 
 -- what is wanted after a byte is wanted from the row that it leads to
-pub wants_goes : (m : NfaValue) (n : Question) (row : Row) (b : ℕ) (next : Row) (y : List ℕ) → GoesTo m n row b next → WantsRow m n row (b ∷ y) ↔ WantsRow m n next y
+pub wants_goes : (m : NfaValue) (n : Question) (row : SearchRow) (b : ℕ) (next : SearchRow) (y : List ℕ) → GoesTo m n row b next → WantsRow m n row (b ∷ y) ↔ WantsRow m n next y
 wants_goes m n row b next y (place, steps, on) =
     let P : List ℕ → ℕ → Type 0 = AcceptsIn m row.states.items in
     let Q : List ℕ → ℕ → Type 0 = AcceptsIn m next.states.items in
@@ -65,12 +65,12 @@ wants_goes m n row b next y (place, steps, on) =
     )
 
 -- nothing is wanted after a byte that leads to no row
-pub wants_past : (m : NfaValue) (n : Question) (row : Row) (b : ℕ) (y : List ℕ) → GoesNowhere m n row b → WantsRow m n row (b ∷ y) → ⊥
+pub wants_past : (m : NfaValue) (n : Question) (row : SearchRow) (b : ℕ) (y : List ℕ) → GoesNowhere m n row b → WantsRow m n row (b ∷ y) → ⊥
 wants_past m n row b y (inl none) (ends, w, clear) = true≢false (sym (subst (λ o. IsTrue (ends_in o y)) none ends))
 wants_past m n row b y (inr (is, closed)) (ends, w, clear) = clear [] y (ap (λ (c : ℕ). c ∷ y) is) closed
 
 -- what is wanted from the row in which paths begin is wanted
-pub wants_begins : (m : NfaValue) (n : Question) (row : Row) (y : List ℕ) → IsFirstRow m n.domain row → WantsRow m n row y ↔ WantsFrom m n y
+pub wants_begins : (m : NfaValue) (n : Question) (row : SearchRow) (y : List ℕ) → IsFirstRow m n.domain row → WantsRow m n row y ↔ WantsFrom m n y
 wants_begins m n row y (place, accepts) =
     let P : List ℕ → ℕ → Type 0 = AcceptsIn m row.states.items in
     let Q : List ℕ → ℕ → Type 0 = IsReached m in
@@ -79,14 +79,14 @@ wants_begins m n row y (place, accepts) =
       λ (ends, w, clear). (subst (λ p. IsTrue (ends_in (Some p) y)) (sym place) ends, wanted.1 w, open_iff n.ignores.items first_rule Q P y (λ z k. ((accepts z k).1, (accepts z k).0)) clear),
     )
 
-module _ (old new : Rows) (row : Row) (origin : Origin) where
+module _ (old new : Rows) (row : SearchRow) (origin : Origin) where
   pub adds_kept : AddsRow old new row origin → KeepsRows old new
   adds_kept (inl (keys, origins, there)) = (
-    λ i r at. subst (λ (ks : List Row). slice_get ks i ≡ Some r) (sym keys) at,
+    λ i r at. subst (λ (ks : List SearchRow). slice_get ks i ≡ Some r) (sym keys) at,
     λ i o at. subst (λ (os : List Origin). slice_get os i ≡ Some o) (sym origins) at,
   )
   adds_kept (inr (keys, origins)) = (
-    λ i r at. subst (λ (ks : List Row). slice_get ks i ≡ Some r) (sym keys) (get_left old.seen.keys (row ∷ []) i r at),
+    λ i r at. subst (λ (ks : List SearchRow). slice_get ks i ≡ Some r) (sym keys) (get_left old.seen.keys (row ∷ []) i r at),
     λ i o at. subst (λ (os : List Origin). slice_get os i ≡ Some o) (sym origins) (get_left old.origins.items (origin ∷ []) i o at),
   )
 
@@ -111,7 +111,7 @@ module _ (old new : Rows) (row : Row) (origin : Origin) where
       → WantsNext m n new origin.row y
   adds_wanted m n y (inl (keys, origins, there)) len before wants =
       let (i, r, at, place, states) = there in
-      (i, r, subst (λ (ks : List Row). slice_get ks i ≡ Some r) (sym keys) at, next i (slice_get_within old.seen.keys i r at), wants_same m n r row y place states wants)
+      (i, r, subst (λ (ks : List SearchRow). slice_get ks i ≡ Some r) (sym keys) at, next i (slice_get_within old.seen.keys i r at), wants_same m n r row y place states wants)
     where
       next : (i : ℕ) → i < length old.seen.keys → IsNext new origin.row i
       next zero lt = inl refl
@@ -122,7 +122,7 @@ module _ (old new : Rows) (row : Row) (origin : Origin) where
   adds_wanted m n y (inr (keys, origins)) len before wants = (
     length old.seen.keys,
     row,
-    subst (λ (ks : List Row). slice_get ks (length old.seen.keys) ≡ Some row) (sym keys) (get_last old.seen.keys row),
+    subst (λ (ks : List SearchRow). slice_get ks (length old.seen.keys) ≡ Some row) (sym keys) (get_last old.seen.keys row),
     inr (
       origin,
       subst (λ (i : ℕ). HasOrigin new i origin) len (subst (λ (os : List Origin). slice_get os (length old.origins.items) ≡ Some origin) (sym origins) (get_last old.origins.items origin)),
@@ -132,12 +132,12 @@ module _ (old new : Rows) (row : Row) (origin : Origin) where
   )
 
   module _ (m : NfaValue) (n : Question) where
-    came_kept : (i : ℕ) (r : Row) (o : Origin) → KeepsRows old new → CameFrom m n old i r o → CameFrom m n new i r o
+    came_kept : (i : ℕ) (r : SearchRow) (o : Origin) → KeepsRows old new → CameFrom m n old i r o → CameFrom m n new i r o
     came_kept i r o keeps (p, low, byte, has, goes) = (p, low, byte, keeps.0 o.row p has, goes)
 
     pub adds_sound : AddsRow old new row origin → AreStates (size m) row.states.items → CameFrom m n old (length old.seen.keys) row origin → CameBefore old (origin.row + 1) → AreRows m n old → AreRows m n new
     adds_sound (inl (keys, origins, there)) small from low is = record {
-      some = subst (λ (ks : List Row). 0 < length ks) (sym keys) is.some;
+      some = subst (λ (ks : List SearchRow). 0 < length ks) (sym keys) is.some;
       len = ap length origins ∙ is.len ∙ sym (ap length keys);
       below = λ i r at. is.below i r (before i r at);
       begins = λ r at. is.begins r (before 0 r at);
@@ -148,15 +148,15 @@ module _ (old new : Rows) (row : Row) (origin : Origin) where
         keeps : KeepsRows old new
         keeps = adds_kept (inl (keys, origins, there))
 
-        before : (i : ℕ) (r : Row) → HasRow new i r → HasRow old i r
-        before i r at = subst (λ (ks : List Row). slice_get ks i ≡ Some r) keys at
+        before : (i : ℕ) (r : SearchRow) → HasRow new i r → HasRow old i r
+        before i r at = subst (λ (ks : List SearchRow). slice_get ks i ≡ Some r) keys at
 
         origin_before : (i : ℕ) (o : Origin) → HasOrigin new i o → HasOrigin old i o
         origin_before i o at = subst (λ (os : List Origin). slice_get os i ≡ Some o) origins at
     adds_sound (inr (keys, origins)) small from low is = record {
       some = omega (arith, more);
       len = omega (arith, more, more_origins, is.len);
-      below = λ i r at. ⊎_elim {C = AreStates (size m) r.states.items} (λ h. is.below i r h) (λ (e, same). subst (λ (q : Row). AreStates (size m) q.states.items) (sym same) small) (before i r at);
+      below = λ i r at. ⊎_elim {C = AreStates (size m) r.states.items} (λ h. is.below i r h) (λ (e, same). subst (λ (q : SearchRow). AreStates (size m) q.states.items) (sym same) small) (before i r at);
       begins = λ r at. ⊎_elim {C = IsFirstRow m n.domain r} (λ h. is.begins r h) (λ (e, same). let some = is.some in absurd (omega arith)) (before 0 r at);
       came = λ i r o pos at came. ⊎_elim {C = CameFrom m n new i r o}
           (λ h. ⊎_elim {C = CameFrom m n new i r o}
@@ -165,7 +165,7 @@ module _ (old new : Rows) (row : Row) (origin : Origin) where
           (came_before i o came))
           (λ (e, same). ⊎_elim {C = CameFrom m n new i r o}
           (λ g. let lt = slice_get_within old.origins.items i o g in let len = is.len in absurd (omega arith))
-          (λ (e', same'). subst (λ (j : ℕ). CameFrom m n new j r o) (sym e) (subst (λ (q : Row). CameFrom m n new (length old.seen.keys) q o) (sym same)
+          (λ (e', same'). subst (λ (j : ℕ). CameFrom m n new j r o) (sym e) (subst (λ (q : SearchRow). CameFrom m n new (length old.seen.keys) q o) (sym same)
           (subst (λ (q : Origin). CameFrom m n new (length old.seen.keys) row q) (sym same') (came_kept (length old.seen.keys) row origin keeps from))))
           (came_before i o came))
           (before i r at);
@@ -190,8 +190,8 @@ module _ (old new : Rows) (row : Row) (origin : Origin) where
         more_origins : length new.origins.items ≡ length old.origins.items + 1
         more_origins = ap length origins ∙ length-append old.origins.items (origin ∷ [])
 
-        before : (i : ℕ) (r : Row) → HasRow new i r → HasRow old i r ⊎ ((i ≡ length old.seen.keys) × (r ≡ row))
-        before i r at = get_cases old.seen.keys row i r (subst (λ (ks : List Row). slice_get ks i ≡ Some r) keys at)
+        before : (i : ℕ) (r : SearchRow) → HasRow new i r → HasRow old i r ⊎ ((i ≡ length old.seen.keys) × (r ≡ row))
+        before i r at = get_cases old.seen.keys row i r (subst (λ (ks : List SearchRow). slice_get ks i ≡ Some r) keys at)
 
         came_before : (i : ℕ) (o : Origin) → slice_get new.origins.items i ≡ Some o → HasOrigin old i o ⊎ ((i ≡ length old.origins.items) × (o ≡ origin))
         came_before i o at = get_cases old.origins.items origin i o (subst (λ (os : List Origin). slice_get os i ≡ Some o) origins at)
@@ -200,36 +200,36 @@ module _ (old new : Rows) (row : Row) (origin : Origin) where
     pub first_sound : AddsRow old new row origin → old.seen.keys ≡ [] → old.origins.items ≡ [] → AreStates (size m) row.states.items → IsFirstRow m n.domain row → AreRows m n new
     first_sound (inl (keys, origins, there)) none nothing small begins =
         let (i, r, at, place, states) = there in
-        absurd (no_row i r (subst (λ (ks : List Row). slice_get ks i ≡ Some r) none at))
+        absurd (no_row i r (subst (λ (ks : List SearchRow). slice_get ks i ≡ Some r) none at))
       where
-        no_row : (i : ℕ) (r : Row) → slice_get [] i ≡ Some r → ⊥
+        no_row : (i : ℕ) (r : SearchRow) → slice_get [] i ≡ Some r → ⊥
         no_row i r e = cc
     first_sound (inr (keys, origins)) none nothing small begins = record {
       some = rw one (omega arith);
       len = rw (one, one_origin) refl;
-      below = λ i r at. subst (λ (q : Row). AreStates (size m) q.states.items) (sym (is_row i r at)) small;
-      begins = λ r at. subst (λ (q : Row). IsFirstRow m n.domain q) (sym (is_row 0 r at)) begins;
-      came = λ i r o pos at came. let lt = slice_get_within (row ∷ []) i r (subst (λ (ks : List Row). slice_get ks i ≡ Some r) one at) in absurd (omega arith);
+      below = λ i r at. subst (λ (q : SearchRow). AreStates (size m) q.states.items) (sym (is_row i r at)) small;
+      begins = λ r at. subst (λ (q : SearchRow). IsFirstRow m n.domain q) (sym (is_row 0 r at)) begins;
+      came = λ i r o pos at came. let lt = slice_get_within (row ∷ []) i r (subst (λ (ks : List SearchRow). slice_get ks i ≡ Some r) one at) in absurd (omega arith);
       order = λ i j o p pos le at there. let lt = slice_get_within (origin ∷ []) i o (subst (λ (os : List Origin). slice_get os i ≡ Some o) one_origin at) in absurd (omega arith);
     }
       where
         one : new.seen.keys ≡ row ∷ []
-        one = keys ∙ ap (λ (ks : List Row). ks ++ row ∷ []) none
+        one = keys ∙ ap (λ (ks : List SearchRow). ks ++ row ∷ []) none
 
         one_origin : new.origins.items ≡ origin ∷ []
         one_origin = origins ∙ ap (λ (os : List Origin). os ++ origin ∷ []) nothing
 
-        is_row : (i : ℕ) (r : Row) → HasRow new i r → r ≡ row
-        is_row i r at = ⊎_elim {C = r ≡ row} (λ h. absurd (no_row i r h)) (λ (e, same). same) (get_cases [] row i r (subst (λ (ks : List Row). slice_get ks i ≡ Some r) one at))
+        is_row : (i : ℕ) (r : SearchRow) → HasRow new i r → r ≡ row
+        is_row i r at = ⊎_elim {C = r ≡ row} (λ h. absurd (no_row i r h)) (λ (e, same). same) (get_cases [] row i r (subst (λ (ks : List SearchRow). slice_get ks i ≡ Some r) one at))
           where
-            no_row : (i : ℕ) (r : Row) → slice_get [] i ≡ Some r → ⊥
+            no_row : (i : ℕ) (r : SearchRow) → slice_get [] i ≡ Some r → ⊥
             no_row i r e = cc
 
 -- a row of a number that was there
-pub row_back : (old new : Rows) → KeepsRows old new → (i : ℕ) (r : Row) → i < length old.seen.keys → HasRow new i r → HasRow old i r
+pub row_back : (old new : Rows) → KeepsRows old new → (i : ℕ) (r : SearchRow) → i < length old.seen.keys → HasRow new i r → HasRow old i r
 row_back old new keeps i r lt at =
     let (q, was) = get_some old.seen.keys i lt in
-    subst (λ (x : Row). slice_get old.seen.keys i ≡ Some x) (get_same new.seen.keys i q r (keeps.0 i q was) at) was
+    subst (λ (x : SearchRow). slice_get old.seen.keys i ≡ Some x) (get_same new.seen.keys i q r (keeps.0 i q was) at) was
 
 module _ (m : NfaValue) (n : Question) where
   next_kept : (old new : Rows) (i j : ℕ) → KeepsRows old new → IsNext old i j → IsNext new i j
@@ -249,16 +249,16 @@ module _ (m : NfaValue) (n : Question) where
   )
 
   -- one row more is done
-  pub done_more : (old new : Rows) (next : ℕ) (row : Row) → KeepsRows old new → next < length old.seen.keys → AreDone m n old next → IsFollowed m n new next → HasRow old next row → (WantsRow m n row [] → ⊥)
+  pub done_more : (old new : Rows) (next : ℕ) (row : SearchRow) → KeepsRows old new → next < length old.seen.keys → AreDone m n old next → IsFollowed m n new next → HasRow old next row → (WantsRow m n row [] → ⊥)
       → AreDone m n new (next + 1)
-  done_more old new next row keeps lt done followed has none i below = ⊎_elim {C = IsFollowed m n new i × ((r : Row) → HasRow new i r → WantsRow m n r [] → ⊥)}
+  done_more old new next row keeps lt done followed has none i below = ⊎_elim {C = IsFollowed m n new i × ((r : SearchRow) → HasRow new i r → WantsRow m n r [] → ⊥)}
       (λ low. done_kept old new next keeps (omega arith) done i low)
-      (λ high. let is : next ≡ i = omega arith in subst (λ (x : ℕ). IsFollowed m n new x × ((r : Row) → HasRow new x r → WantsRow m n r [] → ⊥)) is
-      (followed, λ r at wants. none (subst (λ (q : Row). WantsRow m n q []) (get_same old.seen.keys next r row (row_back old new keeps next r lt at) has) wants)))
+      (λ high. let is : next ≡ i = omega arith in subst (λ (x : ℕ). IsFollowed m n new x × ((r : SearchRow) → HasRow new x r → WantsRow m n r [] → ⊥)) is
+      (followed, λ r at wants. none (subst (λ (q : SearchRow). WantsRow m n q []) (get_same old.seen.keys next r row (row_back old new keeps next r lt at) has) wants)))
       (cases_lt i next)
 
   -- nothing is wanted from rows that are all done
-  pub none_wanted : (rows : Rows) (next : ℕ) → AreDone m n rows next → length rows.seen.keys ≤ next → (y : List ℕ) → AllBytes y → (i : ℕ) (row : Row) → HasRow rows i row → WantsRow m n row y → ⊥
+  pub none_wanted : (rows : Rows) (next : ℕ) → AreDone m n rows next → length rows.seen.keys ≤ next → (y : List ℕ) → AllBytes y → (i : ℕ) (row : SearchRow) → HasRow rows i row → WantsRow m n row y → ⊥
   none_wanted rows next done le [] bytes i row at wants =
       let lt = slice_get_within rows.seen.keys i row at in (done i (omega arith)).1 row at wants
   none_wanted rows next done le (b ∷ y) (byte, bytes) i row at wants =
@@ -316,7 +316,7 @@ module _ (m : NfaValue) (n : Question) (rows : Rows) (is : AreRows m n rows) whe
       (suc e, (omega arith, (o, at, below)), omega arith)
 
   -- where the rows before one are done, a text that is wanted is no shorter than the one is deep
-  wanted_long : (next d : ℕ) → AreDone m n rows next → IsDeep rows d next → (y : List ℕ) → AllBytes y → (i e : ℕ) (row : Row) → HasRow rows i row → IsDeep rows e i → WantsRow m n row y → d ≤ e + length y
+  wanted_long : (next d : ℕ) → AreDone m n rows next → IsDeep rows d next → (y : List ℕ) → AllBytes y → (i e : ℕ) (row : SearchRow) → HasRow rows i row → IsDeep rows e i → WantsRow m n row y → d ≤ e + length y
   wanted_long next d done deep [] bytes i e row at deep' wants = ⊎_elim {C = d ≤ e + 0}
       (λ low. absurd ((done i low).1 row at wants))
       (λ high. let le = deep_order d e next i deep deep' high in omega arith)
@@ -331,7 +331,7 @@ module _ (m : NfaValue) (n : Question) (rows : Rows) (is : AreRows m n rows) whe
       (cases_lt i next)
 
   -- a path to the row is a shortest one
-  pub found_shortest : (next : ℕ) (row : Row) (path : List ℕ) → AreDone m n rows next → HasRow rows next row → IsAskedText m n path → ((d : ℕ) → IsDeep rows d next → length path ≡ d)
+  pub found_shortest : (next : ℕ) (row : SearchRow) (path : List ℕ) → AreDone m n rows next → HasRow rows next row → IsAskedText m n path → ((d : ℕ) → IsDeep rows d next → length path ≡ d)
       → IsShortest (IsAskedText m n) path
   found_shortest next row path done at wanted long = (
     wanted,
@@ -357,7 +357,7 @@ all_push [] b all lt = (lt, tt)
 all_push (x ∷ xs) b (first, rest) lt = (first, all_push xs b rest lt)
 
 -- some path leads to each row
-led_to : (m : NfaValue) (n : Question) (rows : Rows) → AreRows m n rows → (bound i : ℕ) → i < bound → (row : Row) → HasRow rows i row → IsLedTo m n.domain row
+led_to : (m : NfaValue) (n : Question) (rows : Rows) → AreRows m n rows → (bound i : ℕ) → i < bound → (row : SearchRow) → HasRow rows i row → IsLedTo m n.domain row
 led_to m n rows is zero i lt row at = absurd (omega arith)
 led_to m n rows is (suc bound) zero lt row at =
     let (place, accepts) = is.begins row at in

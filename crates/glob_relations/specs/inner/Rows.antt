@@ -8,7 +8,7 @@ use Rattle.byte_nfa.specs.Steps.{Accepts, NfaValue, IsReached}
 use Rattle.byte_nfa.specs.Runs.{size}
 use Rattle.byte_nfa.specs.Equivalent.{AreEquivalent}
 use Rattle.glob_relations.specs.declared.domain.Domain.{Domain}
-use Rattle.glob_relations.specs.declared.rows.Row.{Row}
+use Rattle.glob_relations.specs.declared.rows.SearchRow.{SearchRow}
 use Rattle.glob_relations.specs.declared.rows.Rows.{Rows}
 use Rattle.glob_relations.specs.declared.rows.Origin.{Origin}
 use Rattle.glob_relations.specs.declared.search.Question.{Question}
@@ -35,7 +35,7 @@ abbrev pub first_rule : ℕ
 first_rule = 2
 
 -- from the row the text leads to a wanted end, and not below an ignored folder
-abbrev pub WantsRow : NfaValue → Question → Row → List ℕ → Type 0
+abbrev pub WantsRow : NfaValue → Question → SearchRow → List ℕ → Type 0
 WantsRow m n row y = IsTrue (ends_in (Some row.place) y) × IsWantedBy n.required (AcceptsIn m row.states.items y) × IsOpen n.ignores.items first_rule (AcceptsIn m row.states.items) y
 
 -- from the start the text leads to a wanted end, and not below an ignored folder
@@ -43,11 +43,11 @@ abbrev pub WantsFrom : NfaValue → Question → List ℕ → Type 0
 WantsFrom m n y = IsTrue (ends_in (Some (first_place n.domain)) y) × IsWantedBy n.required (IsReached m y) × IsOpen n.ignores.items first_rule (IsReached m) y
 
 -- the byte is a `/`, and the row is that of an ignored folder
-abbrev pub IsStopped : NfaValue → Question → Row → ℕ → Type 0
+abbrev pub IsStopped : NfaValue → Question → SearchRow → ℕ → Type 0
 IsStopped m n row b = (b ≡ 47) × IsClosed n.ignores.items first_rule (AcceptsIn m row.states.items [])
 
 -- the row has the number i
-abbrev pub HasRow : Rows → ℕ → Row → Type 0
+abbrev pub HasRow : Rows → ℕ → SearchRow → Type 0
 HasRow rows i row = slice_get rows.seen.keys i ≡ Some row
 
 -- the origin of the row of the number i; the origin of the first row means nothing
@@ -60,7 +60,7 @@ IsNext rows i j = (j ≡ 0) ⊎ ((origin : Origin) × HasOrigin rows j origin ×
 
 -- the text leads to a wanted end from some row j for which `IsNext` holds
 abbrev pub WantsNext : NfaValue → Question → Rows → ℕ → List ℕ → Type 0
-WantsNext m n rows i y = (j : ℕ) × (r : Row) × HasRow rows j r × IsNext rows i j × WantsRow m n r y
+WantsNext m n rows i y = (j : ℕ) × (r : SearchRow) × HasRow rows j r × IsNext rows i j × WantsRow m n r y
 
 -- `depth` bytes led from the first row to the row of the number i
 abbrev pub IsDeep : Rows → ℕ → ℕ → Type 0
@@ -72,57 +72,57 @@ abbrev pub CameBefore : Rows → ℕ → Type 0
 CameBefore rows number = (i : ℕ) (origin : Origin) → 0 < i → HasOrigin rows i origin → origin.row < number
 
 -- paths begin in the row
-abbrev pub IsFirstRow : NfaValue → Domain → Row → Type 0
+abbrev pub IsFirstRow : NfaValue → Domain → SearchRow → Type 0
 IsFirstRow m domain row = (row.place ≡ first_place domain) × ((y : List ℕ) (k : ℕ) → AcceptsIn m row.states.items y k ↔ IsReached m y k)
 
 -- the byte leads from the row to the next
-abbrev pub GoesTo : NfaValue → Question → Row → ℕ → Row → Type 0
+abbrev pub GoesTo : NfaValue → Question → SearchRow → ℕ → SearchRow → Type 0
 GoesTo m n row b next = (place_after row.place b ≡ Some next.place) × ((y : List ℕ) (k : ℕ) → AcceptsIn m row.states.items (b ∷ y) k ↔ AcceptsIn m next.states.items y k) × (IsStopped m n row b → ⊥)
 
 -- the byte leads to no row
-abbrev pub GoesNowhere : NfaValue → Question → Row → ℕ → Type 0
+abbrev pub GoesNowhere : NfaValue → Question → SearchRow → ℕ → Type 0
 GoesNowhere m n row b = (place_after row.place b ≡ None) ⊎ IsStopped m n row b
 
 -- the row came from a lower row by a byte
-abbrev pub CameFrom : NfaValue → Question → Rows → ℕ → Row → Origin → Type 0
-CameFrom m n rows i row origin = (p : Row) × (origin.row < i) × (origin.byte < 256) × HasRow rows origin.row p × GoesTo m n p origin.byte row
+abbrev pub CameFrom : NfaValue → Question → Rows → ℕ → SearchRow → Origin → Type 0
+CameFrom m n rows i row origin = (p : SearchRow) × (origin.row < i) × (origin.byte < 256) × HasRow rows origin.row p × GoesTo m n p origin.byte row
 
 -- the invariant of the rows so far
 pub record AreRows (m : NfaValue) (n : Question) (rows : Rows) : Type 0 where
   pub some : 0 < length rows.seen.keys
   pub len : length rows.origins.items ≡ length rows.seen.keys
-  pub below : (i : ℕ) (row : Row) → HasRow rows i row → AreStates (size m) row.states.items
-  pub begins : (row : Row) → HasRow rows 0 row → IsFirstRow m n.domain row
-  pub came : (i : ℕ) (row : Row) (origin : Origin) → 0 < i → HasRow rows i row → HasOrigin rows i origin → CameFrom m n rows i row origin
+  pub below : (i : ℕ) (row : SearchRow) → HasRow rows i row → AreStates (size m) row.states.items
+  pub begins : (row : SearchRow) → HasRow rows 0 row → IsFirstRow m n.domain row
+  pub came : (i : ℕ) (row : SearchRow) (origin : Origin) → 0 < i → HasRow rows i row → HasOrigin rows i origin → CameFrom m n rows i row origin
   pub order : (i j : ℕ) (o p : Origin) → 0 < i → i ≤ j → HasOrigin rows i o → HasOrigin rows j p → o.row ≤ p.row
 
 -- some path leads to the row: what follows it decides from the row as it does after the path
-abbrev pub IsLedTo : NfaValue → Domain → Row → Type 0
+abbrev pub IsLedTo : NfaValue → Domain → SearchRow → Type 0
 IsLedTo m domain row = (y : List ℕ) × AllBytes y × ((z : List ℕ) → ends_in (Some row.place) z ≡ ends_in (Some (first_place domain)) (y ++ z))
     × ((z : List ℕ) (k : ℕ) → AcceptsIn m row.states.items z k ↔ IsReached m (y ++ z) k)
 
 -- no two of the rows have the same place and the same states
-abbrev pub AreDifferent : List Row → Type 0
-AreDifferent rows = (i j : ℕ) (r s : Row) → i < j → slice_get rows i ≡ Some r → slice_get rows j ≡ Some s → r.place ≡ s.place → r.states.items ≡ s.states.items → ⊥
+abbrev pub AreDifferent : List SearchRow → Type 0
+AreDifferent rows = (i j : ℕ) (r s : SearchRow) → i < j → slice_get rows i ≡ Some r → slice_get rows j ≡ Some s → r.place ≡ s.place → r.states.items ≡ s.states.items → ⊥
 
 -- paths lead to more different rows than the limit
 abbrev pub HasMoreRows : NfaValue → Domain → ℕ → Type 0
-HasMoreRows m domain limit = (rows : List Row) × (limit < length rows) × AreDifferent rows
-    × ((i : ℕ) (row : Row) → slice_get rows i ≡ Some row → AreStates (size m) row.states.items × IsLedTo m domain row)
+HasMoreRows m domain limit = (rows : List SearchRow) × (limit < length rows) × AreDifferent rows
+    × ((i : ℕ) (row : SearchRow) → slice_get rows i ≡ Some row → AreStates (size m) row.states.items × IsLedTo m domain row)
 
 -- each row is still there, with its origin
 abbrev pub KeepsRows : Rows → Rows → Type 0
-KeepsRows old new = ((i : ℕ) (row : Row) → HasRow old i row → HasRow new i row) × ((i : ℕ) (origin : Origin) → HasOrigin old i origin → HasOrigin new i origin)
+KeepsRows old new = ((i : ℕ) (row : SearchRow) → HasRow old i row → HasRow new i row) × ((i : ℕ) (origin : Origin) → HasOrigin old i origin → HasOrigin new i origin)
 
 -- the row was there, or was added
-abbrev pub AddsRow : Rows → Rows → Row → Origin → Type 0
+abbrev pub AddsRow : Rows → Rows → SearchRow → Origin → Type 0
 AddsRow old new row origin =
-    ((new.seen.keys ≡ old.seen.keys) × (new.origins.items ≡ old.origins.items) × ((i : ℕ) × (r : Row) × HasRow old i r × (r.place ≡ row.place) × (r.states.items ≡ row.states.items)))
+    ((new.seen.keys ≡ old.seen.keys) × (new.origins.items ≡ old.origins.items) × ((i : ℕ) × (r : SearchRow) × HasRow old i r × (r.place ≡ row.place) × (r.states.items ≡ row.states.items)))
     ⊎ ((new.seen.keys ≡ old.seen.keys ++ row ∷ []) × (new.origins.items ≡ old.origins.items ++ origin ∷ []))
 
 -- each text that leads to a wanted end from the row of the number i after the byte does so from some row that `IsNext` allows
 abbrev pub IsFollowedBy : NfaValue → Question → Rows → ℕ → ℕ → Type 0
-IsFollowedBy m n rows i b = (row : Row) → HasRow rows i row → (y : List ℕ) → WantsRow m n row (b ∷ y) → WantsNext m n rows i y
+IsFollowedBy m n rows i b = (row : SearchRow) → HasRow rows i row → (y : List ℕ) → WantsRow m n row (b ∷ y) → WantsNext m n rows i y
 
 -- the same of each byte
 abbrev pub IsFollowed : NfaValue → Question → Rows → ℕ → Type 0
@@ -130,7 +130,7 @@ IsFollowed m n rows i = (b : ℕ) → b < 256 → IsFollowedBy m n rows i b
 
 -- the rows below a number are not wanted themselves, and followed
 abbrev pub AreDone : NfaValue → Question → Rows → ℕ → Type 0
-AreDone m n rows next = (i : ℕ) → i < next → IsFollowed m n rows i × ((row : Row) → HasRow rows i row → WantsRow m n row [] → ⊥)
+AreDone m n rows next = (i : ℕ) → i < next → IsFollowed m n rows i × ((row : SearchRow) → HasRow rows i row → WantsRow m n row [] → ⊥)
 
 -- bytes that states read alike, and paths of domains
 abbrev pub AreAlike : NfaValue → ℕ → ℕ → Type 0

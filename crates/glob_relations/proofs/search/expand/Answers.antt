@@ -1,6 +1,6 @@
 use Rattle.std.proofs.Common.{◌+◌, ◌∷◌, arith, subst, sym, ◌∙◌, true≢false}
 use Rattle.std.specs.Prelude.{slice_index}
-use Rattle.glob_relations.specs.declared.rows.Row.{Row}
+use Rattle.glob_relations.specs.declared.rows.SearchRow.{SearchRow}
 use Rattle.glob_relations.specs.declared.rows.Rows.{Rows}
 use Rattle.glob_relations.specs.declared.rows.Origin.{Origin}
 use Rattle.glob_relations.specs.inner.Rows.{AddsRow, AreRows, CameBefore, IsFollowedBy, KeepsRows, WantsRow}
@@ -41,7 +41,7 @@ loop-byte-preserved c =
             followed = followed_more m n number bytes old new i keeps inv.number inv.followed
                 (λ r at y wants.
                 let same = get_same old.seen.keys number r from (row_back old new keeps number r inv.number at) c.row.ensures in
-                adds_wanted old new row origin m n y added inv.rows.len inv.before ((wants_goes m n from b row y next.1).0 (subst (λ (q : Row). WantsRow m n q (b ∷ y)) same wants)));
+                adds_wanted old new row origin m n y added inv.rows.len inv.before ((wants_goes m n from b row y next.1).0 (subst (λ (q : SearchRow). WantsRow m n q (b ∷ y)) same wants)));
           }
       | in-Some+else-has_leading w ↦
           let row = w.in-Some.row in
@@ -56,7 +56,7 @@ loop-byte-preserved c =
             followed = followed_more m n number bytes old old i (λ j r at. at, λ j o at. at) inv.number inv.followed
                 (λ r at y wants.
                 let same = get_same old.seen.keys number r from at c.row.ensures in
-                let after = (wants_goes m n from b row y next.1).0 (subst (λ (q : Row). WantsRow m n q (b ∷ y)) same wants) in
+                let after = (wants_goes m n from b row y next.1).0 (subst (λ (q : SearchRow). WantsRow m n q (b ∷ y)) same wants) in
                 absurd (dead_row m n c.args.leading.now row y c.requires.required c.requires.leading (λ t in' on. true≢false (sym (leads t in' on) ∙ w.if-has_leading.false)) after));
           }
       | in_default w ↦
@@ -70,6 +70,6 @@ loop-byte-preserved c =
             followed = followed_more m n number bytes old old i (λ j r at. at, λ j o at. at) inv.number inv.followed
                 (λ r at y wants.
                 let same = get_same old.seen.keys number r from at c.row.ensures in
-                absurd (wants_past m n from b y none (subst (λ (q : Row). WantsRow m n q (b ∷ y)) same wants)));
+                absurd (wants_past m n from b y none (subst (λ (q : SearchRow). WantsRow m n q (b ∷ y)) same wants)));
           }
     ]

@@ -1,5 +1,5 @@
 use Rattle.std.proofs.Common.{ℕ, subst}
-use Rattle.glob_relations.specs.declared.rows.Row.{Row}
+use Rattle.glob_relations.specs.declared.rows.SearchRow.{SearchRow}
 use Rattle.glob_relations.specs.declared.rows.Origin.{Origin}
 use Rattle.glob_relations.specs.inner.Rows.{AreStates}
 use Rattle.glob_relations.proofs.lemmas.Rows.{first_sound, first_before}
@@ -10,7 +10,7 @@ pub returns-clause-rows : goal.returns-clause-rows
 returns-clause-rows c =
     let m = c.args.automaton.now in
     let list = c.in_ok-states.states.items in
-    let row : Row = record { place = c.first_place-place.result; states = c.in_ok-states.states } in
+    let row : SearchRow = record { place = c.first_place-place.result; states = c.in_ok-states.states } in
     let origin : Origin = record { row = 0; byte = 0 } in
     let states = subst (λ (x : ℕ). AreStates x list) c.state_count.ensures c.in_ok-states.ensures.states in
     first_sound c.new-rows.result c.add.new.self row origin m c.args.question.now c.in_ok-add.ensures c.new-rows.ensures.rows c.new-rows.ensures.origins states
@@ -18,6 +18,6 @@ returns-clause-rows c =
 
 pub returns-clause-before : goal.returns-clause-before
 returns-clause-before c =
-    let row : Row = record { place = c.first_place-place.result; states = c.in_ok-states.states } in
+    let row : SearchRow = record { place = c.first_place-place.result; states = c.in_ok-states.states } in
     let origin : Origin = record { row = 0; byte = 0 } in
     first_before c.new-rows.result c.add.new.self row origin c.in_ok-add.ensures c.new-rows.ensures.origins

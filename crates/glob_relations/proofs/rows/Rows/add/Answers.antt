@@ -1,6 +1,6 @@
 use Rattle.std.proofs.Common.{◌≡◌, List, Some, inl, refl, sym, subst}
 use Rattle.std.specs.Prelude.{slice_get}
-use Rattle.glob_relations.specs.declared.rows.Row.{Row}
+use Rattle.glob_relations.specs.declared.rows.SearchRow.{SearchRow}
 use Rattle.glob_relations.proofs.lemmas.Equal.{same_row, kept_keys}
 use Rattle.glob_relations.proofs.rows.Rows.add.Goals as goal
 
@@ -11,4 +11,4 @@ returns-else-is_new c =
     let same = kept_keys c.args.self.now.seen.keys c.insert_full.new.self.keys c.args.row c.in_ok-is_new.is_new c.if-is_new.false e.added e.keys in
     let (k, found, equal) = e.stored in
     let (place, states) = same_row c.args.row k equal in
-    inl (same, refl, (at, k, subst (λ (ks : List Row). slice_get ks at ≡ Some k) same found, sym place, sym states))
+    inl (same, refl, (at, k, subst (λ (ks : List SearchRow). slice_get ks at ≡ Some k) same found, sym place, sym states))
