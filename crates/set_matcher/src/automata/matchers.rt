@@ -358,25 +358,6 @@ impl ExtensionMatchersBuilder {
     /// Returns the slot of an extension, which is a new one if it has none.
     fn slot_of(&mut self, alloc: Global, key: Vec<u8>) -> Result<usize, AllocError>
         ensures slot { IfOk result (λ slot. slot_of self.new.slots key.items ≡ Some slot) }
-        ensures tokens { OnOk result
-            ((before : ℕ → List IndexedTokens) → AreFor self.old.nfas before
-            → KeepsTokens self.old before self.new) }
-        ensures reads { OnOk result
-            ((extension : List ℕ)
-            → max_reads (nfa_under self.new extension) ≡ max_reads (nfa_under self.old extension)) }
-        ensures total { OnOk result (total_reads self.new.nfas ≡ total_reads self.old.nfas) }
-        ensures count { self.new.index_count ≡ self.old.index_count }
-    {
-        if let Some(slot) = self.slots.get(&key) {
-            return Ok(slot);
-        }
-        self.add_slot(alloc, key)
-    }
-
-    /// Makes a slot for an extension that has none, and returns it.
-    fn add_slot(&mut self, alloc: Global, key: Vec<u8>) -> Result<usize, AllocError>
-        requires { slot_of self.old.slots key.items ≡ None }
-        ensures slot { IfOk result (λ slot. slot_of self.new.slots key.items ≡ Some slot) }
 
         // After success each extension has the tokens that it had, and as many reads. The reads of all extensions together stay,
         // too. The number that each index is below stays as it is.
@@ -389,6 +370,9 @@ impl ExtensionMatchersBuilder {
         ensures total { OnOk result (total_reads self.new.nfas ≡ total_reads self.old.nfas) }
         ensures count { self.new.index_count ≡ self.old.index_count }
     {
+        if let Some(slot) = self.slots.get(&key) {
+            return Ok(slot);
+        }
         let slot = self.builders.len();
         self.builders.push(new_builder(alloc, self.index_count))?;
         self.slots.insert(alloc, key, slot)?;
@@ -437,24 +421,10 @@ fn finished(
 {
     let mut automata = Vec::with_capacity(alloc, builders.len())?;
     for builder in builders {
-        push_finished(alloc, dfa_size_limit, all_states, builder, &mut automata)?;
+        let automaton = builder.finish();
+        automata.push(Compiled::new(alloc, dfa_size_limit, automaton, all_states)?)?;
     }
     Ok(automata)
-}
-
-/// Pushes the automaton of a builder. Returns an error if memory runs out.
-fn push_finished(
-    alloc: Global,
-    dfa_size_limit: usize,
-    all_states: usize,
-    builder: Builder,
-    automata: &mut Vec<Compiled>,
-) -> Result<(), AllocError>
-    ensures { OnOk result (automata.new.items ≡ automata.old.items ++ builder ∷ []) }
-{
-    let automaton = builder.finish();
-    automata.push(Compiled::new(alloc, dfa_size_limit, automaton, all_states)?)?;
-    Ok(())
 }
 
 /// Extensions and their slots, in the order of their additions.

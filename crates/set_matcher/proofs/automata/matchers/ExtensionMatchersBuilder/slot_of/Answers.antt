@@ -6,7 +6,7 @@ use Rattle.byte_keys.specs.Entries.{Entry, entry}
 use Rattle.set_matcher.specs.inner.Automata.{ExtensionParts, AreFor, AreExtensionMatchers, KeepsTokens, nfa_under, slot_of, total_reads}
 use Rattle.set_matcher.proofs.lemmas.Tables.{first_of_key}
 use Rattle.set_matcher.proofs.lemmas.ExtensionMatchers.{extension_parts, matchers_cleared, matchers_push, matchers_insert, slot_keeps, slot_reads, total_push}
-use Rattle.set_matcher.proofs.automata.matchers.ExtensionMatchersBuilder.add_slot.Goals as goal
+use Rattle.set_matcher.proofs.automata.matchers.ExtensionMatchersBuilder.slot_of.Goals as goal
 
 pub invariant_of-self-in_err-insert : goal.invariant_of-self-in_err-insert
 invariant_of-self-in_err-insert c =
@@ -26,7 +26,7 @@ invariant_of-self-2 c =
 
 pub returns-clause-slot : goal.returns-clause-slot
 returns-clause-slot c =
-    let none : slot_of c.self.inside.slots c.args.key.items ≡ None = ap (λ (e : ExtensionParts). slot_of e.slots c.args.key.items) c.self.view_is ∙ c.requires in
+    let none : slot_of c.self.inside.slots c.args.key.items ≡ None = ap (slot_of c.self.inside.slots) (sym c.deref.ensures.value) ∙ sym c.get.ensures ∙ c.in_default.is in
     ap (λ es. slot_of es c.args.key.items) c.in_ok-insert.ensures.ok ∙ first_of_key c.self.inside.slots c.args.key.items c.len-slot.result none
 
 pub returns-clause-tokens : goal.returns-clause-tokens
