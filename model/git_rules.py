@@ -227,7 +227,9 @@ def read_line(line, ignore_case):
     return None if text.startswith(b"#") else pattern_of_text(text, ignore_case)
 
 
+@lru_cache(maxsize=100_000)
 def is_readable(line):
+    """Returns whether git can read a line."""
     try:
         read_line(line, False)
         return True

@@ -348,7 +348,7 @@ impl Nfa {
         })
     }
 
-    /// Returns a state as it is stored, or `None` if there are no more states than its number.
+    /// Returns a state as it is stored, or `None` if no state has this number.
     pub(crate) fn stored(&self, s: usize) -> Option<State> {
         self.states.get(s).copied()
     }

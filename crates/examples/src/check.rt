@@ -90,7 +90,7 @@ fn push_unused_rules(
     findings.push_unused(alloc, &lines_at(alloc, file, &lines)?, &found)
 }
 
-/// Returns the lines of an ignore file with these numbers, which ascend, without a carriage return at their ends.
+/// Returns the lines of an ignore file that have these numbers, in ascending order, each without a carriage return at its end.
 fn lines_at<'t>(
     alloc: Global,
     file: &'t TextFile,

@@ -82,7 +82,7 @@ pub fn unreachable_rules(
     Ok(all)
 }
 
-/// Returns whether the rule of an index ever decides. The automaton finds which rules match a path.
+/// Returns whether a rule, given by its pattern and its index, ever decides. The automaton finds which rules match a path.
 ///
 /// Only if the path about which the rule decides alone lies below an ignored folder, there is a search for a path that does not.
 fn rule_reachability(

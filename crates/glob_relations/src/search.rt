@@ -62,7 +62,7 @@ pub struct Question {
     /// For each of some rules, whether it ignores folders, or keeps them. Its index is `FIRST_RULE` and its number together. A
     /// path is not wanted if the last rule that applies to a folder above it ignores folders.
     pub ignores: Vec<bool>,
-    /// Where the path has to be.
+    /// The paths that are asked about.
     pub domain: Domain,
 }
 

@@ -302,7 +302,7 @@ pub struct AutomataBuilder {
     by_path: Builder,
     by_component: Builder,
     extensions: ExtensionMatchersBuilder,
-    /// Whether tokens were added to any of them.
+    /// Whether `add` was called.
     is_used: bool,
 }
 

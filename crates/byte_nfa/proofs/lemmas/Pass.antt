@@ -237,10 +237,6 @@ names_it st k t q is = rw is refl
 pub names_none : (st : State) (t : ℕ) (q : Bool) → names st None t ≡ false → q ≡ (names st None t || q)
 names_none st t q none = rw none refl
 
-pub some_end : (P : Type 0) (Q : ℕ → Type 0) (o : Option ℕ) → MatchOption o P Q → is_some o ≡ true → (k : ℕ) × Q k
-some_end P Q None h e = absurd (true≢false (sym e))
-some_end P Q (Some k) h e = (k, h)
-
 pub no_end : (P : Type 0) (Q : ℕ → Type 0) (o : Option ℕ) → MatchOption o P Q → is_some o ≡ false → P
 no_end P Q None h e = h
 no_end P Q (Some k) h e = absurd (true≢false e)

@@ -22,7 +22,7 @@ pub fn uses(alloc: Global, rules: &Rules<'_>) -> Result<Vec<RuleReachability>, E
 }
 
 /// Returns whether a rule ever decides, by what is told of each glob. The last glob that matches a path is one of the rule that
-/// decides, so a rule decides where one of its globs does.
+/// decides, so a rule decides where one of its globs does. It is not known if that is not known of a glob, and none decides.
 fn use_of(
     alloc: Global,
     rules: &Rules<'_>,
@@ -52,14 +52,13 @@ fn use_of(
 fn least(alloc: Global, rules: &Rules<'_>, rule: usize) -> Result<Vec<usize>, Error> {
     let mut least = Vec::new(alloc);
     for later in rule.saturating_add(1)..rules.lines.len() {
-        if !matches!(common(alloc, rules, rule, later)?, Intersection::Disjoint) {
-            least.push(later)?;
+        if matches!(common(alloc, rules, rule, later)?, Intersection::Disjoint) {
+            continue;
         }
-    }
-    for later in &least {
-        if covers(alloc, rules, rule, rules.globs_of(*later))? {
-            return Ok(Vec::from_array(alloc, [*later])?);
+        if covers(alloc, rules, rule, rules.globs_of(later))? {
+            return Ok(Vec::from_array(alloc, [later])?);
         }
+        least.push(later)?;
     }
     for place in (0..least.len()).rev() {
         let fewer = rules.globs_without(alloc, &least, place)?;

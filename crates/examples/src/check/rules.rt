@@ -16,7 +16,7 @@ pub struct Rules<'t> {
     pub lines: Vec<RuleLine<'t>>,
     pub globs: Vec<Glob>,
     /// For each glob the index of its rule.
-    owners: Vec<usize>,
+    rule_of: Vec<usize>,
 }
 
 impl<'t> Rules<'t> {
@@ -26,7 +26,7 @@ impl<'t> Rules<'t> {
         let mut rules = Rules {
             lines: Vec::new(rt.alloc()),
             globs: Vec::new(rt.alloc()),
-            owners: Vec::new(rt.alloc()),
+            rule_of: Vec::new(rt.alloc()),
         };
         let mut is_right = true;
         for (i, line) in file.lines(rt.alloc())?.iter().enumerate() {
@@ -54,7 +54,7 @@ impl<'t> Rules<'t> {
         }
         for glob in globs {
             self.globs.push(glob)?;
-            self.owners.push(self.lines.len())?;
+            self.rule_of.push(self.lines.len())?;
         }
         let text = pattern.as_bytes();
         Ok(self.lines.push(RuleLine { number, text })?)
@@ -62,8 +62,8 @@ impl<'t> Rules<'t> {
 
     /// Returns the indexes of the globs of a rule.
     pub fn range(&self, rule: usize) -> Range<usize> {
-        let start = self.owners.partition_point(|owner| *owner < rule);
-        start..self.owners.partition_point(|owner| *owner <= rule)
+        let start = self.rule_of.partition_point(|other| *other < rule);
+        start..self.rule_of.partition_point(|other| *other <= rule)
     }
 
     /// Returns the globs of a rule.

@@ -1,5 +1,5 @@
 -- What is stored of the rules of a file.
-use Rattle.std.proofs.Common.{◌≡◌, ◌⊎◌, inl, inr, ℕ, zero, suc, ◌+◌, ◌<◌, ◌≤◌, List, [], ◌∷◌, ◌++◌, length, take, Bool, true, false, refl, ap, sym, ◌∙◌, arith, append-nil}
+use Rattle.std.proofs.Common.{◌≡◌, ◌⊎◌, inl, inr, ℕ, zero, suc, ◌+◌, ◌<◌, ◌≤◌, List, [], ◌∷◌, ◌++◌, length, take, Bool, true, false, refl, ap, sym, ◌∙◌, arith}
 use Rattle.std.specs.Prelude.{◌&&◌, ◌↔◌, IsOk, IsTrue, OnOk, Result, Ok, Err, Option, Some, None, if◌then◌else◌, slice_get}
 use Rattle.std.proofs.lemmas.Bool.{cases_lt, false≢true}
 use Rattle.std.proofs.lemmas.List.{length-map, map-append}
@@ -52,11 +52,6 @@ line_added done ps qs es ds n p o is put pushed h =
       same_patterns = ap (λ (l : List Pattern). l ++ p ∷ []) h.same_patterns ∙ sym (map-append (λ (rule : Rule). rule.pattern) done (r ∷ []));
       same_entries = ap (λ (l : List RuleEntry). l ++ entry_of r ∷ []) h.same_entries ∙ sym (map-append entry_of done (r ∷ []));
     })
-
--- the line was read, and it has no rule
-pub line_left_out : (done : List Rule) (ps qs : List Pattern) (es ds : List RuleEntry) (n : ℕ) (o : Option Pattern) → o ≡ None
-    → qs ≡ ps → ds ≡ es → ArePartsOf done ps es → ArePartsOf (done ++ rule_at n o) qs ds
-line_left_out done ps qs es ds n o none same_patterns same_entries h = rw (none, same_patterns, same_entries, append-nil) h
 
 -- ---- the entries that are found
 

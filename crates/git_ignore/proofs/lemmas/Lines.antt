@@ -1,6 +1,6 @@
 -- The lines of bytes, as a search for line feeds finds them.
 use Rattle.std.proofs.Common.{◌≡◌, ℕ, zero, suc, ◌+◌, ◌-◌, ◌<◌, List, [], ◌∷◌, ◌++◌, take, drop, Bool, true, false, refl, ap, sym, ◌∙◌, arith, append-nil, append_assoc, subst}
-use Rattle.std.specs.Prelude.{◌==◌, ◌&&◌, not, Option, Some, None, is_none, if◌then◌else◌, slice_get}
+use Rattle.std.specs.Prelude.{◌==◌, ◌&&◌, Option, Some, None, if◌then◌else◌, slice_get}
 use Rattle.std.specs.List.{onto_first}
 use Rattle.std.specs.Option.{option_map}
 use Rattle.memchr.specs.Find.{IsFirstByte, is_byte}
@@ -79,14 +79,6 @@ unread_split false n ns = refl
 
 unread_of_first : (n : ℕ) (line : List ℕ) (lines : List (List ℕ)) → unread_from n (line ∷ lines) ≡ unread_at n (is_unread line) ++ unread_from (suc n) lines
 unread_of_first n line lines = unread_split (is_unread line) n (unread_from (suc n) lines)
-
--- a line with a pattern adds no number
-pub never_unread : (ns : List ℕ) (n : ℕ) (p : Pattern) (o : Option Pattern) (lacks : Bool) → o ≡ Some p → ns ≡ ns ++ unread_at n (is_none o && not lacks)
-never_unread ns n p o lacks is = rw (is, append-nil) refl
-
--- a line without a pattern adds its number, unless its text has none
-pub unread_if_lacks_none : (ns : List ℕ) (n : ℕ) (o : Option Pattern) (lacks : Bool) → o ≡ None → ns ++ unread_at n (not lacks) ≡ ns ++ unread_at n (is_none o && not lacks)
-unread_if_lacks_none ns n o lacks none = rw none refl
 
 -- the next line was read
 pub next_unread : (all now new : List ℕ) (n i : ℕ) (rest line after : List ℕ)

@@ -16,7 +16,7 @@ use Rattle.git_ignore.specs.TwoRules.{first_answer, folders_above, ignoring, las
 use Rattle.git_ignore.specs.declared.decision.DecidingRule.{DecidingRule}
 use Rattle.git_ignore.specs.declared.folder_rules.FolderRules.{FolderRules}
 use Rattle.git_ignore.specs.declared.path_rule.PathRule.{PathRule}
-use Rattle.git_ignore.specs.inner.PathRules.{IsPathRule, NoneAbove, joined, without_rule}
+use Rattle.git_ignore.specs.inner.PathRules.{IsPathRule, NoneAbove, joined}
 use Rattle.git_ignore.specs.inner.Stacks.{file_of, files_of}
 use Rattle.git_ignore.proofs.lemmas.Entries.{found_above}
 use Rattle.git_ignore.proofs.lemmas.Stacks.{files_up_to}
@@ -128,14 +128,6 @@ run_tells c bytes path file n is_folder m before after r is all adds count rule 
 none_either : (o p : Option DecidingRule) → ignoring o ≡ None → ignoring p ≡ None → ignoring (option_or o p) ≡ None
 none_either None p lacks none = none
 none_either (Some rule) p lacks none = lacks
-
--- no file
-pub none_tells : (path : List ℕ) (is_folder : Bool) → IsPathRule (files_rule []) path is_folder without_rule
-none_tells path is_folder = record {
-  rule = refl;
-  not_ignored = λ lacks folder rest cut. refl;
-  undecided = λ lacks folder rest cut. refl;
-}
 
 -- the rules of the files up to an index, and of the one there
 pub files_tell : (files : List FolderRules) (i : ℕ) (f : FolderRules) (path : List ℕ) (is_folder : Bool) (told' here : PathRule) → i < length files → f ≡ get_or files i f

@@ -128,14 +128,6 @@ module _ (c : Bool) (folder more : List ℕ) (files : List IgnoreFile) (l : Fold
     subst (λ (fs : List IgnoreFile). AreInFolders c (take l.folder (folder ++ more)) fs ls) (sym same_files) (subst (λ (f : List ℕ). AreInFolders c f files ls) (sym same_folder) h),
   )
 
-  value_entered : walk_of c (folder ++ more) files (l ∷ ls)
-      ≡ record { ignore_case = c; here = record { path = folder ++ more; files = [] }; above = here_of folder files ls ∷ above_of folder files ls }
-  value_entered = λ i. record {
-    ignore_case = c;
-    here = record { path = folder ++ more; files = bytes_of (none_left i) };
-    above = here_of (same_folder i) (same_files i) ls ∷ above_of (same_folder i) (same_files i) ls;
-  }
-
 pub folder_entered : (c : Bool) (folder name longer_folder : List ℕ) (b now : Option DecidingRule) (files : List FolderRules) (levels all : List FolderLevel) (scratch : ScratchValue) (l : FolderLevel)
     → IsStack c folder b files levels scratch → longer_folder ≡ folder ++ name ++ 47 ∷ [] → all ≡ levels ++ l ∷ []
     → l.folder ≡ length folder → l.files ≡ length files → l.ignored_by ≡ b → now ≡ ignoring (deciding Git (files_rule (files_of files)) (folder ++ name) true)
@@ -153,19 +145,6 @@ folder_entered c folder name longer_folder b now files levels all scratch l h pu
           (placed_below c folder (name ++ 47 ∷ []) (files_of files) l (reverse levels) e counted h.placed));
       fits = h.fits;
     }
-
-pub stack_entered : (c : Bool) (folder name longer_folder : List ℕ) (files : List FolderRules) (levels all : List FolderLevel) (l : FolderLevel)
-    → longer_folder ≡ folder ++ name ++ 47 ∷ [] → all ≡ levels ++ l ∷ [] → l.folder ≡ length folder → l.files ≡ length files
-    → stack_value c longer_folder files all ≡ entered (stack_value c folder files levels) name
-stack_entered c folder name longer_folder files levels all l put pushed e n =
-    let whole : longer_folder ≡ folder ++ (name ++ 47 ∷ []) = put ∙ append_assoc folder name (47 ∷ []) in
-    let counted = n ∙ sym (length-map files file_of) in
-    let value = stack_value c folder files levels in
-    ap (λ (ls : List FolderLevel). walk_of c longer_folder (files_of files) ls) (ap reverse pushed ∙ one_reversed levels l)
-    ∙ ap (λ (p : List ℕ). walk_of c p (files_of files) (l ∷ reverse levels)) whole
-    ∙ value_entered c folder (name ++ 47 ∷ []) (files_of files) l (reverse levels) e counted
-    ∙ ap (λ (p : List ℕ). record { ignore_case = c; here = record { path = p; files = [] }; above = value.here ∷ value.above })
-    (sym (append_assoc folder name (47 ∷ [])) ∙ ap (λ (p : List ℕ). p ++ name ++ 47 ∷ []) (sym (here_path folder (files_of files) (reverse levels))))
 
 -- ---- a folder is left
 

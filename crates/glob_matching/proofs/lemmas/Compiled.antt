@@ -1,6 +1,6 @@
 -- What runs find, by the tokens that an automaton is for.
 use Rattle.std.proofs.Common.{ℕ, Bool, IsTrue, ◌<◌, ◌⊎◌, inl, inr, List, [], ◌∷◌, ◌++◌, refl, slice_index}
-use Rattle.std.specs.Prelude.{◌↔◌, Result, Ok, Err, OnOk, IfOk, Option, Some, None, IfSome}
+use Rattle.std.specs.Prelude.{◌↔◌, Result, Ok, Err, OnOk, IfOk, Some}
 use Rattle.std.proofs.Math.Logic.{⊎_elim}
 use Rattle.byte_nfa.specs.Live.{MatchesAfter}
 use Rattle.byte_nfa.specs.Steps.{NfaValue, IsReached}
@@ -74,7 +74,3 @@ on_ok (Err e) f p = tt
 pub if_ok : {T E : Type 0} {P Q : T → Type 0} (r : Result T E) → ((x : T) → P x → Q x) → IfOk r P → IfOk r Q
 if_ok (Ok x) f p = f x p
 if_ok (Err e) f p = tt
-
-pub if_some : {T : Type 0} {P Q : T → Type 0} (o : Option T) → ((x : T) → P x → Q x) → IfSome o P → IfSome o Q
-if_some (Some x) f p = f x p
-if_some None f p = tt

@@ -1,5 +1,5 @@
 -- Bytes that are read alike.
-use Rattle.std.proofs.Common.{◌≡◌, ℕ, zero, suc, ◌+◌, ◌<◌, ◌≤◌, ◌⊎◌, inl, inr, Bool, true, false, true≢false, List, [], ◌∷◌, ◌++◌, refl, ap, sym, subst, ◌∙◌, arith, ne_eqb}
+use Rattle.std.proofs.Common.{◌≡◌, ℕ, zero, suc, ◌+◌, ◌<◌, ◌≤◌, ◌⊎◌, inl, inr, Bool, true, false, true≢false, List, [], ◌∷◌, ◌++◌, refl, ap, sym, subst, ◌∙◌, arith}
 use Rattle.std.specs.Prelude.{◌↔◌, Contains}
 use Rattle.std.proofs.lemmas.Bool.{cases_lt}
 use Rattle.std.proofs.lemmas.List.Elements.{Contains-append_left, Contains-append_right, Contains-push}
@@ -10,7 +10,7 @@ use Rattle.byte_nfa.specs.Steps.{NfaValue}
 use Rattle.byte_nfa.proofs.lemmas.Equivalent.{accepts_equivalent}
 use Rattle.glob_relations.specs.declared.rows.SearchRow.{SearchRow}
 use Rattle.glob_relations.specs.declared.search.Question.{Question}
-use Rattle.glob_relations.specs.inner.Places.{kind_of, after_kind, ends_in}
+use Rattle.glob_relations.specs.inner.Places.{after_kind, ends_in}
 use Rattle.glob_relations.specs.inner.Rows.{AcceptsIn, AreAlike, AreBoundaries, AreRepresentatives, BeginsClass, first_rule, WantsRow}
 use Rattle.glob_relations.proofs.lemmas.Closed.{open_alike, slash_is}
 use Rattle.glob_relations.proofs.lemmas.Passes.{wanted_iff}
@@ -82,14 +82,3 @@ module _ (m : NfaValue) (set : ByteSet) (first rest : List ℕ) (i : ℕ) (found
         ⊎_elim {C = Contains (first ++ rest) b} (λ h. Contains-append_left first rest b h) (λ h. Contains-append_right first rest b h) at,
         (λ s. like.0 s ∙ alike.0 s, like.1 ∙ alike.1),
       )
-
--- a byte that is none of these is like the next one
-pub kinds_alike : (b : ℕ) → (b ≡ 0 → ⊥) → (b ≡ 45 → ⊥) → (b ≡ 46 → ⊥) → (b ≡ 47 → ⊥) → kind_of b ≡ kind_of (b + 1)
-kinds_alike b h0 h45 h46 h47 =
-    let a47 = ne_eqb b 47 h47 in
-    let a46 = ne_eqb b 46 h46 in
-    let a0 = ne_eqb b 0 h0 in
-    let b47 = ne_eqb (b + 1) 47 (λ e. h46 (omega arith)) in
-    let b46 = ne_eqb (b + 1) 46 (λ e. h45 (omega arith)) in
-    let b0 = ne_eqb (b + 1) 0 (λ e. absurd (omega arith)) in
-    rw (a47, a46, a0, b47, b46, b0) refl

@@ -1,20 +1,10 @@
 -- Texts that do not lead below an ignored folder.
 use Rattle.std.proofs.Common.{◌≡◌, ℕ, ◌+◌, Bool, true, false, List, [], ◌∷◌, ◌++◌, refl, ap, sym, subst, ◌∙◌}
-use Rattle.std.specs.Prelude.{◌↔◌, ◌==◌, Some, slice_get, if◌then◌else◌}
+use Rattle.std.specs.Prelude.{◌↔◌, ◌==◌, if◌then◌else◌}
 use Rattle.std.proofs.lemmas.Bool.{eqb-true}
-use Rattle.byte_nfa.specs.Steps.{NfaValue, IsReached}
 use Rattle.glob_relations.specs.declared.domain.Kind.TheVariants.{Slash, Point, Zero, Other}
-use Rattle.glob_relations.specs.declared.search.Question.{Question}
 use Rattle.glob_relations.specs.inner.Closed.{IsClosedBy, IsClosed, IsOpen}
 use Rattle.glob_relations.specs.inner.Places.{kind_of}
-use Rattle.glob_relations.specs.inner.Rows.{IsAskedText, IsWantedText}
-
--- nothing is closed by no rules
-pub closed_none : (first : ℕ) (ignores : List Bool) (P : ℕ → Type 0) → ignores ≡ [] → IsClosed ignores first P → ⊥
-closed_none first ignores P none (k, (at, has, rest)) = off k (subst (λ (l : List Bool). slice_get l k ≡ Some true) none at)
-  where
-    off : (j : ℕ) → slice_get {X = Bool} [] j ≡ Some true → ⊥
-    off j e = cc
 
 -- a byte that is read like a `/` is one
 pub slash_is : (b c : ℕ) → kind_of b ≡ kind_of c → b ≡ 47 → c ≡ 47
@@ -59,10 +49,3 @@ module _ (ignores : List Bool) (first : ℕ) where
   pub open_alike : (P : List ℕ → ℕ → Type 0) (b c : ℕ) (y : List ℕ) → ((z : List ℕ) (k : ℕ) → P (b ∷ z) k ↔ P (c ∷ z) k) → (b ≡ 47 → c ≡ 47) → IsOpen ignores first P (c ∷ y) → IsOpen ignores first P (b ∷ y)
   open_alike P b c y same slash clear = open_before P (λ z. P (c ∷ z)) b y same (λ is closed. clear [] y (ap (λ (d : ℕ). d ∷ y) (slash is)) closed)
       (open_next P (λ z. P (c ∷ z)) c y (λ z k. (λ h. h, λ h. h)) clear)
-
--- what is asked where no folder is ignored
-pub asked_plain : (m : NfaValue) (n : Question) (y : List ℕ) → n.ignores.items ≡ [] → IsAskedText m n y ↔ IsWantedText m n.required n.domain y
-asked_plain m n y none = (
-  λ (bytes, (ends, wanted, clear)). (bytes, (ends, wanted)),
-  λ (bytes, (ends, wanted)). (bytes, (ends, wanted, λ folder rest is closed. closed_none 2 n.ignores.items (IsReached m folder) none closed)),
-)

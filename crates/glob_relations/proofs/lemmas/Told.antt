@@ -1,12 +1,7 @@
 -- What a search tells.
 use Rattle.std.proofs.Common.{ℕ, Bool, true, false, List, IsTrue, refl}
 use Rattle.std.specs.Prelude.{◌↔◌, IsFalse}
-use Rattle.byte_nfa.specs.Steps.{NfaValue}
-use Rattle.glob_relations.specs.declared.domain.Domain.{Domain}
-use Rattle.glob_relations.specs.declared.search.Answer.{Answer}
-use Rattle.glob_relations.specs.declared.search.Answer.TheVariants.{Found, Nothing, Limit}
 use Rattle.glob_relations.specs.Shortest.{IsShortest}
-use Rattle.glob_relations.specs.inner.Rows.{TellsText}
 
 pub is_false : (b : Bool) → (IsTrue b → ⊥) → IsFalse b
 is_false true h = absurd (h refl)
@@ -19,8 +14,3 @@ is_true false h = absurd (h refl)
 -- the shortest of texts that have a property has each property that the same texts have
 pub shortest_same : (P Q : List ℕ → Type 0) (text : List ℕ) → ((y : List ℕ) → P y ↔ Q y) → IsShortest P text → IsShortest Q text
 shortest_same P Q text same (has, least) = ((same text).0 has, λ other q. least other ((same other).1 q))
-
-pub tells_same : (P Q : List ℕ → Type 0) (m : NfaValue) (domain : Domain) (limit : ℕ) (answer : Answer) → ((y : List ℕ) → P y ↔ Q y) → TellsText P m domain limit answer → TellsText Q m domain limit answer
-tells_same P Q m domain limit (Found path) same told = shortest_same P Q path.items same told
-tells_same P Q m domain limit Nothing same told = λ y q. told y ((same y).1 q)
-tells_same P Q m domain limit Limit same told = told

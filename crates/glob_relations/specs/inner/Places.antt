@@ -27,6 +27,7 @@ after_kind p Other = Some Inside
 after_kind p Slash = None
 after_kind p Zero = None
 
+-- the place after the byte, if some path of the domain begins so
 abbrev pub place_after : Place → ℕ → Option Place
 place_after p b = after_kind p (kind_of b)
 

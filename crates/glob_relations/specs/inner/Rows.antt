@@ -156,6 +156,7 @@ IsAskedText m n y = AllBytes y × WantsFrom m n y
 abbrev pub LeadsFrom : NfaValue → ℕ → Domain → List ℕ → Type 0
 LeadsFrom m required domain y = IsTrue (ends_in (Some (first_place domain)) y) × IsWantedBy required (IsReached m y)
 
+-- a text of bytes that leads so
 abbrev pub IsWantedText : NfaValue → ℕ → Domain → List ℕ → Type 0
 IsWantedText m required domain y = AllBytes y × LeadsFrom m required domain y
 
@@ -166,8 +167,10 @@ TellsText P m domain limit (Found path) = IsShortest P path.items
 TellsText P m domain limit Nothing = (y : List ℕ) → P y → ⊥
 TellsText P m domain limit Limit = HasMoreRows m domain limit
 
+-- the answer of a search for the texts of a question
 abbrev pub TellsAsked : NfaValue → Question → ℕ → Answer → Type 0
 TellsAsked m n limit answer = TellsText (IsAskedText m n) m n.domain limit answer
 
+-- and where no folder is ignored
 abbrev pub TellsSearch : NfaValue → ℕ → Domain → ℕ → Answer → Type 0
 TellsSearch m required domain limit answer = TellsText (IsWantedText m required domain) m domain limit answer

@@ -146,9 +146,6 @@ visits_more first old new i size le more = omega arith
 pub visits_within : (first old new i n size : ℕ) → i ≤ n → old ≤ first + i * size → new ≤ old + size → new ≤ first + (n + 1) * size
 visits_within first old new i n size le before more = let h = mul-le i size n size le (omega arith) in omega (arith, h)
 
-pub visits_before : (first old new i n size : ℕ) → i < n → old ≤ first + i * size → new ≤ old + size → new ≤ first + n * size
-visits_before first old new i n size lt before more = let h = mul-le (i + 1) size n size (omega (arith, lt)) (omega arith) in omega (arith, h)
-
 -- what is left after a run came to a byte, where each byte more costs at most so much
 pub visits_left : (m at w old mid new total : ℕ) → 0 < w → mid ≤ old + at → new ≤ mid + w → old + (m + at + 1) * w ≤ total → new + m * w ≤ total
 visits_left m at w old mid new total some read step le = let h = mul-le at 1 at w (omega arith) (omega (arith, some)) in omega (arith, h, read, step, le)

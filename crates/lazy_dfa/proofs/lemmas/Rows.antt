@@ -525,12 +525,6 @@ none_reached m none y k (s, begins, h) = let lt = accepts_within m.states k s y 
 pub one_row : (rows : Rows) (i j p : ℕ) → IsAt rows i p → IsAt rows j p → i ≡ j
 one_row rows i j p (lt, is) (lt', is') = (same_place i 0 j 0 rows.class_count (omega arith) (omega arith) (omega (arith, is, is'))).0
 
--- the places of a row are below the bound of entries
-pub place_below : (m : NfaValue) (rows : Rows) (i p : ℕ) → IsSound m rows → IsAt rows i p → p < max_entries
-place_below m rows i p sound (lt, is) =
-    let within = place_within i 0 (length rows.starts.items) rows.class_count lt (omega arith) in
-    omega (arith, within, is, sound.len, sound.small)
-
 -- a number that stands in a list where one was written is that one, or stood there before
 pub one_written : (list : List ℕ) (at value s x : ℕ) → at < length list → slice_index (slice_set list at value) s ≡ x → (value ≡ x) ⊎ (slice_index list s ≡ x)
 one_written list at value s x room is = ⊎_elim {C = (value ≡ x) ⊎ (slice_index list s ≡ x)}

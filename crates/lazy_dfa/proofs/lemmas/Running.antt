@@ -1,7 +1,6 @@
 -- What is found by the automaton that is run for another.
-use Rattle.std.proofs.Common.{◌≡◌, ℕ, ◌+◌, ◌*◌, ◌<◌, ◌≤◌, List, [], ◌∷◌, ◌++◌, length, ap, arith}
+use Rattle.std.proofs.Common.{◌≡◌, ℕ, ◌+◌, ◌*◌, ◌<◌, ◌≤◌, List, [], ◌∷◌, ◌++◌, length, arith}
 use Rattle.std.specs.Prelude.{◌↔◌}
-use Rattle.std.proofs.lemmas.Nat.{mul-le}
 use Rattle.bit_sets.specs.Texts.{AllBytes}
 use Rattle.byte_nfa.specs.Live.{MatchesAfter}
 use Rattle.byte_nfa.specs.Runs.{size}
@@ -13,9 +12,6 @@ use Rattle.lazy_dfa.proofs.lemmas.After.{after_is}
 use Rattle.lazy_dfa.proofs.lemmas.Finding.{found_is}
 
 module _ (source run : NfaValue) (runs : RunsFor source run) where
-  pub same_half : half run ≡ source.index_count
-  same_half = let two = runs.early.index_count in let one = runs.shares.index_count in omega arith
-
   pub fewer : size run ≤ size source
   fewer = let len = runs.early.len in let states = runs.shares.states in omega (arith, len, states)
 
@@ -41,10 +37,3 @@ module _ (source run : NfaValue) (runs : RunsFor source run) where
       no_number : (xs : List ℕ) → length xs ≡ 0 → (s : ℕ) → HasNumber s xs → ⊥
       no_number [] e s h = h
       no_number (x ∷ xs) e s h = omega (arith, e)
-
-  pub some_starts : 1 ≤ length run.starts → 1 ≤ length source.starts
-  some_starts some = let same : length run.starts ≡ length runs.sharing.starts = ap length runs.early.starts in omega (arith, some, same, runs.shares.starts)
-
-  -- visits of so many positions
-  pub visits_of : (positions before after more : ℕ) → after ≤ before + positions * (size run + more) → after ≤ before + positions * (size source + more)
-  visits_of positions before after more le = let all = mul-le positions (size run + more) positions (size source + more) (omega arith) (omega (arith, fewer)) in omega (arith, le, all)
