@@ -11,7 +11,7 @@ use Rattle.glob_relations.specs.declared.domain.Place.TheVariants.{Anywhere, Sta
 use Rattle.glob_relations.specs.declared.rows.SearchRow.{SearchRow}
 use Rattle.glob_relations.specs.inner.Rows.{AreDifferent}
 use Rattle.glob_relations.specs.contracts.domain.PlacePartialEq.TheImpl as places
-use Rattle.glob_relations.specs.contracts.rows.RowPartialEq.TheImpl as rows
+use Rattle.glob_relations.specs.contracts.rows.SearchRowPartialEq.TheImpl as rows
 
 same_numbers : (xs ys : List ℕ) → bytes_eq xs ys ≡ true → xs ≡ ys
 same_numbers [] [] h = refl
