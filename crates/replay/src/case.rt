@@ -129,11 +129,13 @@ impl Globs {
         let mut alone = Globs::new(self.alloc);
         alone.push(read(self.alloc, columns)??)?;
         let answers = alone.path(columns, Asked::Path)?;
-        let answer = match answers.as_str() {
-            "0\tyes\t0" => "yes",
-            "-\tno\t-" => "no",
+        let answer = if answers.as_str() == "0\tyes\t0" {
+            "yes"
+        } else if answers.as_str() == "-\tno\t-" {
+            "no"
+        } else {
             // The set's matcher says something else.
-            columns => columns,
+            return Ok(answers);
         };
         Ok(String::from_str(self.alloc, answer)?)
     }
