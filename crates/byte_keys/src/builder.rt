@@ -1,6 +1,6 @@
 //! Builders of tables.
 
-ghost use Rattle.std.specs.Prelude.{◌≡◌, ◌↔◌, ℕ, IsTrue, List, ◌++◌, ◌∷◌, [], OnOk, OnErr, IfOk, length};
+ghost use Rattle.std.specs.Prelude.{◌≡◌, ◌↔◌, IsTrue, List, ◌++◌, ◌∷◌, [], OnOk, OnErr, IfOk, length};
 ghost use Rattle.byte_keys.specs.Entries.{entry, Entry};
 ghost use Rattle.std.specs.List.{All};
 ghost use Rattle.byte_keys.specs.inner.Pairs.{entries_of, IsKept};

@@ -4,7 +4,6 @@ ghost use Rattle.std.specs.Prelude.{◌≡◌, ℕ, ◌+◌, ◌^◌, ◌<◌, �
 ghost use Rattle.std.specs.Bool.{MatchBool};
 ghost use Rattle.std.specs.List.{All, Contains};
 ghost use Rattle.std.specs.List.Sorted.{IsSortedBy, IsNonDecreasing};
-ghost use Rattle.byte_keys.specs.Entries.{Entry, indexes_under};
 ghost use Rattle.byte_keys.specs.inner.Pairs.{entries_of, hash_of, pair_below, IsKept};
 ghost use Rattle.byte_keys.specs.inner.Ends.{HasEnds, ends_have};
 ghost use Rattle.byte_keys.specs.inner.Starts.{HasStarts, AreStarts, buckets_of, hashes_of, rows_near};
@@ -80,7 +79,7 @@ pub(crate) fn rows_of(alloc: Global, bytes: &[u8], pairs: &[Pair]) -> Result<Vec
     Ok(rows)
 }
 
-/// The number of rows that are compared in turn. So few rows are compared without a hash.
+/// The most rows that are compared in turn, without a hash.
 pub(crate) const FEW: usize = 8;
 
 /// Finds the row with a key, by the keys' ends and a directory. Each comparison with a row's key is counted.

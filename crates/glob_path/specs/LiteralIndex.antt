@@ -29,6 +29,7 @@ keys_found t path = indexes_under t.paths path
 
 -- ---- another key
 
+-- no key of any kind
 abbrev pub no_keys : KeyParts
 no_keys = record {
   paths = [];
@@ -38,18 +39,23 @@ no_keys = record {
   ends = [];
 }
 
+-- the index under the key as a whole path, behind those that are there
 abbrev pub with_path : KeyParts → List ℕ → ℕ → KeyParts
 with_path t key n = record t { paths = t.paths ++ entry key n ∷ [] }
 
+-- likewise, under the key as a last component
 abbrev pub with_component : KeyParts → List ℕ → ℕ → KeyParts
 with_component t key n = record t { components = t.components ++ entry key n ∷ [] }
 
+-- as an extension
 abbrev pub with_extension : KeyParts → List ℕ → ℕ → KeyParts
 with_extension t key n = record t { extensions = t.extensions ++ entry key n ∷ [] }
 
+-- as the beginning of paths
 abbrev pub with_beginning : KeyParts → List ℕ → ℕ → KeyParts
 with_beginning t key n = record t { prefixes = t.prefixes ++ entry key n ∷ [] }
 
+-- as the end of paths
 abbrev pub with_end : KeyParts → List ℕ → ℕ → KeyParts
 with_end t key n = record t { ends = t.ends ++ entry key n ∷ [] }
 

@@ -51,6 +51,7 @@ Nests (suc n) (closing ∷ ts) m = Nests n ts m
 abbrev pub IsNested : List Flat → Type 0
 IsNested ts = Nests 0 ts 0
 
+-- the token stands for itself: it neither opens nor closes a group, and separates no branches
 abbrev pub IsSimple : Flat → Type 0
 IsSimple (simple t) = Unit {0}
 IsSimple opening = ⊥

@@ -73,10 +73,6 @@ whole_or_parse_error (Err f) = Err f
 unfoldable pub reading : Options → List ℕ → Result Tokens ParseErrorKind
 reading o text = whole_or_parse_error (nested zero (lexemes o zero text))
 
--- the text has these tokens
-abbrev pub Reads : Options → List ℕ → Tokens → Type 0
-Reads o text ts = reading o text ≡ Ok ts
-
 -- this is the first error of the text
 abbrev pub HasParseError : Options → List ℕ → ParseErrorKind → Type 0
 HasParseError o text f = reading o text ≡ Err f
