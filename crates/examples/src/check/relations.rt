@@ -6,60 +6,87 @@ use glob_relations::{
     Coverage, Decides, Domain, Intersection, Reachability, RuleReachability, covering, overlap,
     unreachable,
 };
-use globset::{Error, Glob};
+use globset::{Candidate, Error, Glob, GlobSet, Searcher};
 use std::alloc::Global;
+
+/// Rules are about relative paths.
+const DOMAIN: Domain = Domain::RelativePaths;
 
 /// Returns for each rule whether it ever decides: a path about which it does, or the indexes of the rules that match each path
 /// that it matches. None of these can be left out. If one rule does alone, it is the only one.
 pub fn uses(alloc: Global, rules: &Rules<'_>) -> Result<Vec<RuleReachability>, Error> {
-    let domain = Domain::RelativePaths;
-    let told = unreachable(alloc, &rules.globs, Decides::Last, domain, LIMIT)?;
+    let told = unreachable(alloc, &rules.globs, Decides::Last, DOMAIN, LIMIT)?;
+    let mut searcher = Searcher::new(alloc, &GlobSet::new(alloc, &rules.globs)?)?;
     let mut uses = Vec::new(alloc);
     for rule in 0..rules.lines.len() {
-        uses.push(use_of(alloc, rules, rule, &told)?)?;
+        let of_globs = told.get(rules.range(rule)).unwrap_or(&[]);
+        uses.push(use_of(alloc, rules, rule, of_globs, &mut searcher)?)?;
     }
     Ok(uses)
 }
 
-/// Returns whether a rule ever decides, by what is told of each glob. The last glob that matches a path is one of the rule that
+/// Returns whether a rule ever decides, by what is told of its globs. The last glob that matches a path is one of the rule that
 /// decides, so a rule decides where one of its globs does. It is not known if that is not known of a glob, and none decides.
 fn use_of(
     alloc: Global,
     rules: &Rules<'_>,
     rule: usize,
-    told: &[Reachability],
+    of_globs: &[Reachability],
+    searcher: &mut Searcher,
 ) -> Result<RuleReachability, Error> {
+    let mut covering_rules = Vec::new(alloc);
     let mut is_known = true;
-    for of_glob in told.get(rules.range(rule)).unwrap_or(&[]) {
+    for of_glob in of_globs {
         match of_glob {
             Reachability::Decides(path) => {
                 let path = path.to_vec(alloc)?;
                 return Ok(RuleReachability::Decides(path));
             }
-            Reachability::Never(_) => {}
+            Reachability::Never(by) => rules.push_rules_after(rule, by, &mut covering_rules)?,
             Reachability::Unknown => is_known = false,
         }
     }
-    if is_known {
-        Ok(RuleReachability::Never(least(alloc, rules, rule)?))
-    } else {
-        Ok(RuleReachability::Unknown)
+    if !is_known {
+        return Ok(RuleReachability::Unknown);
     }
+    if let Some(one) = only_cover(alloc, rules, rule, searcher)? {
+        covering_rules = Vec::from_array(alloc, [one])?;
+    }
+    Ok(RuleReachability::Never(least(alloc, rules, rule, covering_rules)?))
 }
 
-/// Returns which of the later rules are needed to cover a rule that all of them cover. A search that reaches the limit leaves its
-/// rule among them.
-fn least(alloc: Global, rules: &Rules<'_>, rule: usize) -> Result<Vec<usize>, Error> {
-    let mut least = Vec::new(alloc);
-    for later in rule.saturating_add(1)..rules.lines.len() {
-        if matches!(common(alloc, rules, rule, later)?, Intersection::Disjoint) {
-            continue;
+/// Returns the first later rule that covers a rule alone, if there is any. It matches whatever path of the rule is tried.
+fn only_cover(
+    alloc: Global,
+    rules: &Rules<'_>,
+    rule: usize,
+    searcher: &mut Searcher,
+) -> Result<Option<usize>, Error> {
+    for glob in rules.globs_of(rule) {
+        if let Coverage::Not(path) = covering(alloc, glob, &[], DOMAIN, LIMIT)? {
+            let mut later = Vec::new(alloc);
+            let found = searcher.matches(&Candidate::from_bytes(&path));
+            rules.push_rules_after(rule, found, &mut later)?;
+            for other in &later {
+                if covers(alloc, rules, rule, rules.globs_of(*other))? {
+                    return Ok(Some(*other));
+                }
+            }
+            return Ok(None);
         }
-        if covers(alloc, rules, rule, rules.globs_of(later))? {
-            return Ok(Vec::from_array(alloc, [later])?);
-        }
-        least.push(later)?;
     }
+    Ok(None)
+}
+
+/// Returns which of the later rules at `by`, which cover a rule, are needed for that. A search that reaches the limit leaves its
+/// rule among them.
+fn least(
+    alloc: Global,
+    rules: &Rules<'_>,
+    rule: usize,
+    by: Vec<usize>,
+) -> Result<Vec<usize>, Error> {
+    let mut least = by;
     for place in (0..least.len()).rev() {
         let fewer = rules.globs_without(alloc, &least, place)?;
         if covers(alloc, rules, rule, &fewer)? && place < least.len() {
@@ -72,7 +99,7 @@ fn least(alloc: Global, rules: &Rules<'_>, rule: usize) -> Result<Vec<usize>, Er
 /// Returns whether globs match each path that a rule matches, and the limit was not reached.
 fn covers(alloc: Global, rules: &Rules<'_>, rule: usize, by: &[Glob]) -> Result<bool, Error> {
     for glob in rules.globs_of(rule) {
-        let told = covering(alloc, glob, by, Domain::RelativePaths, LIMIT)?;
+        let told = covering(alloc, glob, by, DOMAIN, LIMIT)?;
         if !matches!(told, Coverage::Covered) {
             return Ok(false);
         }
@@ -86,7 +113,7 @@ pub fn common(alloc: Global, rules: &Rules<'_>, a: usize, b: usize) -> Result<In
     let mut found = Intersection::Disjoint;
     for first in rules.globs_of(a) {
         for second in rules.globs_of(b) {
-            let told = overlap(alloc, first, second, Domain::RelativePaths, LIMIT)?;
+            let told = overlap(alloc, first, second, DOMAIN, LIMIT)?;
             if rank(&told) < rank(&found) {
                 found = told;
             }

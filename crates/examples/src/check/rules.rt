@@ -71,6 +71,23 @@ impl<'t> Rules<'t> {
         self.globs.get(self.range(rule)).unwrap_or(&[])
     }
 
+    /// Adds the rules after a rule that globs at these indexes are of, except those that are there.
+    pub fn push_rules_after(
+        &self,
+        rule: usize,
+        globs: &[usize],
+        into: &mut Vec<usize>,
+    ) -> Result<(), AllocError> {
+        for glob in globs {
+            if let Some(other) = self.rule_of.get(*glob) {
+                if *other > rule && !into.contains(other) {
+                    into.push(*other)?;
+                }
+            }
+        }
+        Ok(())
+    }
+
     /// Returns copies of the globs of chosen rules, without the rule at a place among these.
     pub fn globs_without(
         &self,
