@@ -1,6 +1,6 @@
 //! Bytes that are read alike.
 
-ghost use Rattle.std.specs.Prelude.{ℕ, ◌↔◌, IsTrue, IfOk};
+ghost use Rattle.std.specs.Prelude.{◌↔◌, IsTrue, IfOk};
 ghost use Rattle.byte_nfa.specs.Steps.{NfaValue};
 ghost use Rattle.glob_relations.specs.inner.Rows.{AreAlike, AreBoundaries, AreRepresentatives, BeginsClass};
 

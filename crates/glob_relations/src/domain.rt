@@ -15,19 +15,19 @@ pub enum Domain {
 
 impl Domain {
     /// Returns the place where a path begins.
-    pub(crate) fn first_place(self) -> Place
+    pub(crate) fn first_place(self) -> PathPlace
         ensures { result ≡ first_place self }
     {
         match self {
-            Domain::AllPaths => Place::Anywhere,
-            Domain::RelativePaths => Place::Start,
+            Domain::AllPaths => PathPlace::Anywhere,
+            Domain::RelativePaths => PathPlace::Start,
         }
     }
 }
 
 /// How far the bytes of a path so far decide whether it is in a domain.
 #[derive(Clone, Copy, PartialEq, Eq, Hash)]
-pub enum Place {
+pub enum PathPlace {
     /// In a path of any bytes.
     Anywhere,
     /// At the start of a component.
@@ -40,17 +40,17 @@ pub enum Place {
     Inside,
 }
 
-impl Place {
+impl PathPlace {
     /// Returns the place after a byte, or `None` if no path of the domain begins so.
-    pub fn after(self, byte: u8) -> Option<Place>
+    pub fn after(self, byte: u8) -> Option<PathPlace>
         ensures { result ≡ place_after self byte }
     {
         match (self, kind_of(byte)) {
-            (Place::Anywhere, _) => Some(Place::Anywhere),
-            (Place::Start, Kind::Point) => Some(Place::Dot),
-            (Place::Dot, Kind::Point) => Some(Place::TwoDots),
-            (Place::Inside, Kind::Slash) => Some(Place::Start),
-            (_, Kind::Point | Kind::Other) => Some(Place::Inside),
+            (PathPlace::Anywhere, _) => Some(PathPlace::Anywhere),
+            (PathPlace::Start, Kind::Point) => Some(PathPlace::Dot),
+            (PathPlace::Dot, Kind::Point) => Some(PathPlace::TwoDots),
+            (PathPlace::Inside, Kind::Slash) => Some(PathPlace::Start),
+            (_, Kind::Point | Kind::Other) => Some(PathPlace::Inside),
             (_, Kind::Slash | Kind::Zero) => None,
         }
     }
@@ -59,7 +59,7 @@ impl Place {
     pub fn is_last(self) -> bool
         ensures { result ≡ is_last_place self }
     {
-        matches!(self, Place::Anywhere | Place::Inside)
+        matches!(self, PathPlace::Anywhere | PathPlace::Inside)
     }
 }
 

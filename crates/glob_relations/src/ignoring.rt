@@ -1,6 +1,6 @@
 //! Folders that rules of an ignore file ignore.
 
-ghost use Rattle.std.specs.Prelude.{◌≡◌, ℕ, ◌≤◌, IfOk, IsTrue, MatchOption};
+ghost use Rattle.std.specs.Prelude.{◌≡◌, ◌≤◌, IfOk, IsTrue, MatchOption};
 ghost use Rattle.bit_sets.specs.Indexes.{has_index};
 ghost use Rattle.byte_nfa.specs.Steps.{IsReached};
 ghost use Rattle.glob_relations.specs.inner.Closed.{IsClosed, IsClosedBy, IsClosedAbove, IsOpen, ignores_of};

@@ -9,7 +9,7 @@ ghost use Rattle.glob_relations.specs.Unused.{items_at};
 
 use crate::compared::{Compared, builder_at, numbers};
 use crate::domain::Domain;
-use crate::search::{Answer, search};
+use crate::search::{SearchAnswer, search};
 use glob_strategy::new_builder;
 use globset_glob::{Error, Glob};
 use ignore_pattern::IgnorePattern;
@@ -108,9 +108,9 @@ pub(crate) fn covering_at<T: Compared>(
 {
     let automaton = builder_at(alloc, options, 2, item, items, by)?.finish();
     match search(alloc, &automaton, 1, domain, limit)? {
-        Answer::Found(path) => Ok(Coverage::Not(path)),
-        Answer::Nothing => Ok(Coverage::Covered),
-        Answer::Limit => Ok(Coverage::Unknown),
+        SearchAnswer::Found(path) => Ok(Coverage::Not(path)),
+        SearchAnswer::Nothing => Ok(Coverage::Covered),
+        SearchAnswer::Limit => Ok(Coverage::Unknown),
     }
 }
 
@@ -132,8 +132,8 @@ pub fn overlap(
     a.add_to(alloc, (), &mut builder, 0)?;
     b.add_to(alloc, (), &mut builder, 1)?;
     match search(alloc, &builder.finish(), 2, domain, limit)? {
-        Answer::Found(path) => Ok(Intersection::Both(path)),
-        Answer::Nothing => Ok(Intersection::Disjoint),
-        Answer::Limit => Ok(Intersection::Unknown),
+        SearchAnswer::Found(path) => Ok(Intersection::Both(path)),
+        SearchAnswer::Nothing => Ok(Intersection::Disjoint),
+        SearchAnswer::Limit => Ok(Intersection::Unknown),
     }
 }

@@ -1,17 +1,17 @@
 //! Rows: the states that the beginnings of paths lead to.
 
-ghost use Rattle.std.specs.Prelude.{◌≡◌, ℕ, ◌<◌, ◌↔◌, ◌∷◌, [], List, length, slice_get, Some, IfOk, OnOk};
+ghost use Rattle.std.specs.Prelude.{◌≡◌, ℕ, ◌<◌, [], length, slice_get, Some, IfOk, OnOk};
 ghost use Rattle.bit_sets.specs.Texts.{AllBytes};
 ghost use Rattle.byte_nfa.specs.Steps.{NfaValue};
 
-use crate::domain::Place;
+use crate::domain::PathPlace;
 use indexmap::IndexSet;
 use std::alloc::{AllocError, Global};
 
 /// A row: the place of a path in its domain, and the states of an automaton that it leads to.
 #[derive(PartialEq, Eq, Hash, Drop)]
 pub struct SearchRow {
-    pub place: Place,
+    pub place: PathPlace,
     pub states: Vec<usize>,
 }
 
@@ -24,22 +24,22 @@ pub struct Origin {
 
 /// Rows, each once, in the order of their additions.
 #[derive(Drop)]
-pub struct Rows {
+pub struct SearchRows {
     pub seen: IndexSet<SearchRow>,
     /// The origin of each row. The origin of the first row means nothing.
     pub origins: Vec<Origin>,
 }
 
-impl Rows {
+impl SearchRows {
     ghost use Rattle.glob_relations.specs.declared.search.Question.{Question};
     ghost use Rattle.glob_relations.specs.inner.Rows.{AddsRow, AreDifferent, AreRows, HasRow, IsDeep, WantsRow, WantsFrom};
 
     /// Returns no rows. It allocates nothing.
-    pub fn new(alloc: Global) -> Rows
+    pub fn new(alloc: Global) -> SearchRows
         ensures rows { result.seen.keys ≡ [] }
         ensures origins { result.origins.items ≡ [] }
     {
-        Rows {
+        SearchRows {
             seen: IndexSet::new(alloc),
             origins: Vec::new(alloc),
         }

@@ -10,7 +10,7 @@ ghost use Rattle.glob_relations.specs.inner.Closed.{ignores_of};
 use crate::compared::{add_numbered, automaton_of_list, builder_at};
 use crate::domain::Domain;
 use crate::ignoring::{hiding_rule, ignores_of};
-use crate::search::{Answer, Question, ask};
+use crate::search::{Question, SearchAnswer, ask};
 use crate::unused::{Reachability, reachability_among};
 use byte_nfa::Nfa;
 use ignore_pattern::IgnorePattern;
@@ -122,9 +122,9 @@ fn rule_reachability(
     };
     let all = automaton_of_rule(alloc, pattern, patterns, &others, ignore_case)?;
     match ask(alloc, &all, question, limit)? {
-        Answer::Found(shown) => Ok(RuleReachability::Decides(shown)),
-        Answer::Nothing => Ok(RuleReachability::Hidden(k)),
-        Answer::Limit => Ok(RuleReachability::Unknown),
+        SearchAnswer::Found(shown) => Ok(RuleReachability::Decides(shown)),
+        SearchAnswer::Nothing => Ok(RuleReachability::Hidden(k)),
+        SearchAnswer::Limit => Ok(RuleReachability::Unknown),
     }
 }
 

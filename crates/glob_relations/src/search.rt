@@ -1,11 +1,8 @@
 //! A search for a path: breadth first, over the rows that paths lead to.
 
-ghost use Rattle.std.specs.Prelude.{◌≡◌, ℕ, ◌+◌, ◌<◌, ◌≤◌, ◌↔◌, ◌∷◌, [], List, length, IsTrue, IfOk, OnOk, MatchOption};
-ghost use Rattle.bit_sets.specs.Indexes.{index_capacity};
-ghost use Rattle.bit_sets.specs.Numbers.{AreBelow};
-ghost use Rattle.bit_sets.specs.StateSets.{state_capacity};
+ghost use Rattle.std.specs.Prelude.{◌+◌, ◌<◌, ◌↔◌, [], length, IsTrue, IfOk, OnOk, MatchOption};
 ghost use Rattle.byte_nfa.specs.Runs.{size};
-ghost use Rattle.glob_relations.specs.inner.Rows.{AreRepresentatives, AreRows, AreStates, AreDone, GoesNowhere, GoesTo, CameBefore, HasRow, IsFollowed, IsFollowedBy, IsStopped, KeepsRows, TellsAsked, TellsSearch, WantsRow};
+ghost use Rattle.glob_relations.specs.inner.Rows.{AreRepresentatives, AreRows, AreStates, GoesNowhere, GoesTo, CameBefore, IsFollowed, IsStopped, KeepsRows, TellsAsked, TellsSearch, WantsRow};
 ghost use Rattle.glob_relations.specs.inner.Leading.{AreLeading};
 ghost use Rattle.glob_relations.specs.inner.Memory.{HasRoom};
 
@@ -14,14 +11,14 @@ use crate::domain::Domain;
 use crate::ignoring::ignoring_rule;
 use crate::leading::{has_leading, leading};
 use crate::pass::{ends_of, is_wanted, states_of, step};
-use crate::rows::{Origin, Rows, SearchRow};
+use crate::rows::{Origin, SearchRow, SearchRows};
 use bit_sets::{IndexSet, StateSet};
 use byte_nfa::Nfa;
 use std::alloc::{AllocError, Global};
 
 /// The answer of a search.
 #[derive(Drop)]
-pub enum Answer {
+pub enum SearchAnswer {
     /// A shortest path that is wanted.
     Found(Vec<u8>),
     /// No path is wanted.
@@ -79,7 +76,7 @@ pub fn search(
     required: usize,
     domain: Domain,
     limit: usize,
-) -> Result<Answer, AllocError>
+) -> Result<SearchAnswer, AllocError>
     requires { 0 < required }
     ensures { IfOk result (TellsSearch automaton.now required domain limit) }
 {
@@ -98,7 +95,7 @@ pub fn ask(
     automaton: &Nfa,
     question: &Question,
     limit: usize,
-) -> Result<Answer, AllocError>
+) -> Result<SearchAnswer, AllocError>
     requires { 0 < question.now.required }
     ensures { IfOk result (TellsAsked automaton.now question.now limit) }
 {
@@ -109,11 +106,11 @@ pub fn ask(
     let mut next = 0;
     while next < rows.len() {
         if rows.len() > limit {
-            return Ok(Answer::Limit);
+            return Ok(SearchAnswer::Limit);
         }
         if is_row_wanted(automaton, question, rows.row(next), &mut memory) {
             let path = rows.path_to(alloc, next)?;
-            return Ok(Answer::Found(path));
+            return Ok(SearchAnswer::Found(path));
         }
         expand(
             alloc,
@@ -127,7 +124,7 @@ pub fn ask(
         )?;
         next += 1;
     }
-    Ok(Answer::Nothing)
+    Ok(SearchAnswer::Nothing)
 }
 
 /// Returns the row where a path begins, alone.
@@ -136,7 +133,7 @@ fn first_rows(
     automaton: &Nfa,
     question: &Question,
     memory: &mut Memory,
-) -> Result<Rows, AllocError>
+) -> Result<SearchRows, AllocError>
     requires { HasRoom automaton.now memory.old }
     ensures room { HasRoom automaton.now memory.new }
     ensures rows { IfOk result (AreRows automaton.now question.now) }
@@ -144,7 +141,7 @@ fn first_rows(
 {
     automaton.start(&mut memory.from);
     let states = states_of(alloc, &memory.from, automaton.state_count())?;
-    let mut rows = Rows::new(alloc);
+    let mut rows = SearchRows::new(alloc);
     let place = question.domain.first_place();
     rows.add(SearchRow { place, states }, Origin { row: 0, byte: 0 })?;
     Ok(rows)
@@ -232,7 +229,7 @@ fn expand(
     question: &Question,
     bytes: &[u8],
     leading: &[bool],
-    rows: &mut Rows,
+    rows: &mut SearchRows,
     number: usize,
     memory: &mut Memory,
 ) -> Result<(), AllocError>

@@ -20,8 +20,8 @@ use Rattle.glob_relations.specs.declared.relations.Coverage.{Coverage}
 use Rattle.glob_relations.specs.declared.relations.Coverage.TheVariants.{Covered, Not, Unknown}
 use Rattle.glob_relations.specs.declared.relations.Intersection.{Intersection}
 use Rattle.glob_relations.specs.declared.relations.Intersection.TheVariants.{Disjoint, Both, Unknown as Undecided}
-use Rattle.glob_relations.specs.declared.search.Answer.{Answer}
-use Rattle.glob_relations.specs.declared.search.Answer.TheVariants.{Found, Nothing, Limit}
+use Rattle.glob_relations.specs.declared.search.SearchAnswer.{SearchAnswer}
+use Rattle.glob_relations.specs.declared.search.SearchAnswer.TheVariants.{Found, Nothing, Limit}
 use Rattle.glob_relations.proofs.lemmas.Domains.{is_in}
 use Rattle.glob_relations.proofs.lemmas.Told.{is_false, is_true, shortest_same}
 
@@ -111,7 +111,7 @@ module _ {A : Type 0} (matches : A → List ℕ → Bool) (m : NfaValue) (x : A)
   )
 
 -- what an answer of the search tells of an item and those that may cover it
-abbrev pub coverage_of : Answer → Coverage
+abbrev pub coverage_of : SearchAnswer → Coverage
 coverage_of (Found path) = Not path
 coverage_of Nothing = Covered
 coverage_of Limit = Unknown
@@ -131,14 +131,14 @@ module _ {A : Type 0} (matches : A → List ℕ → Bool) (m : NfaValue) (x : A)
       reaches : (k : ℕ) → AllBytes path → IsReached m path k ↔ SomeMatches matches ((x, 0) ∷ under 1 by) path k
       reaches k bytes = is m.states (λ s low high. refl) path k bytes
 
-  pub told_covering : (limit : ℕ) (answer : Answer) → TellsSearch m 1 domain limit answer → TellsCovering matches x by domain limit (coverage_of answer)
+  pub told_covering : (limit : ℕ) (answer : SearchAnswer) → TellsSearch m 1 domain limit answer → TellsCovering matches x by domain limit (coverage_of answer)
   told_covering limit (Found path) found = shortest_same (IsWantedText m 1 domain) (IsMissed matches x by domain) path.items missed found
   told_covering limit Nothing none = λ path inside matched. is_true (some_match matches by path) (λ off. none path ((missed path).1 (inside, matched, off)))
   told_covering limit Limit more = (m, is, more)
 
 -- ---- two globs
 
-abbrev pub intersection_of : Answer → Intersection
+abbrev pub intersection_of : SearchAnswer → Intersection
 intersection_of (Found path) = Both path
 intersection_of Nothing = Disjoint
 intersection_of Limit = Undecided
@@ -170,7 +170,7 @@ module _ (m : NfaValue) (a b : GlobValue) (domain : Domain) (is : IsFor glob_mat
       both first second (suc zero) lt = second
       both first second (suc (suc k)) lt = absurd (omega arith)
 
-  pub told_overlap : (limit : ℕ) (answer : Answer) → TellsSearch m 2 domain limit answer → TellsOverlap a b domain limit (intersection_of answer)
+  pub told_overlap : (limit : ℕ) (answer : SearchAnswer) → TellsSearch m 2 domain limit answer → TellsOverlap a b domain limit (intersection_of answer)
   told_overlap limit (Found path) found = shortest_same (IsWantedText m 2 domain) (IsShared a b domain) path.items wanted_shared found
   told_overlap limit Nothing none = λ path inside first second. none path ((wanted_shared path).1 (inside, first, second))
   told_overlap limit Limit more = (m, is, more)

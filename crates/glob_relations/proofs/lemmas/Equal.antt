@@ -6,11 +6,11 @@ use Rattle.std.specs.Str.{bytes_eq}
 use Rattle.indexmap.specs.IndexSet.{insert_key}
 use Rattle.std.proofs.lemmas.Bool.{eq-eqb, eqb-true}
 use Rattle.byte_nfa.proofs.lemmas.Pass.{and_both, and_first, and_second}
-use Rattle.glob_relations.specs.declared.domain.Place.{Place}
-use Rattle.glob_relations.specs.declared.domain.Place.TheVariants.{Anywhere, Start, Dot, TwoDots, Inside}
+use Rattle.glob_relations.specs.declared.domain.PathPlace.{PathPlace}
+use Rattle.glob_relations.specs.declared.domain.PathPlace.TheVariants.{Anywhere, Start, Dot, TwoDots, Inside}
 use Rattle.glob_relations.specs.declared.rows.SearchRow.{SearchRow}
 use Rattle.glob_relations.specs.inner.Rows.{AreDifferent}
-use Rattle.glob_relations.specs.contracts.domain.PlacePartialEq.TheImpl as places
+use Rattle.glob_relations.specs.contracts.domain.PathPlacePartialEq.TheImpl as places
 use Rattle.glob_relations.specs.contracts.rows.SearchRowPartialEq.TheImpl as rows
 
 same_numbers : (xs ys : List ℕ) → bytes_eq xs ys ≡ true → xs ≡ ys
@@ -22,7 +22,7 @@ same_numbers (x ∷ xs) (y ∷ ys) h =
     let rest : xs ≡ ys = same_numbers xs ys (and_second (nat_eq x y) (bytes_eq xs ys) h) in
     cc
 
-same_place : (p q : Place) → places.ghosts.eq p q ≡ true → p ≡ q
+same_place : (p q : PathPlace) → places.ghosts.eq p q ≡ true → p ≡ q
 same_place Anywhere Anywhere h = refl
 same_place Anywhere Start h = absurd (true≢false (sym h))
 same_place Anywhere Dot h = absurd (true≢false (sym h))
@@ -63,7 +63,7 @@ kept_keys ks new row is_new old added keys = keys ∙ ap (λ z. if z then ks els
     there true h = refl
     there false h = absurd (true≢false h)
 
-own_place : (p : Place) → places.ghosts.eq p p ≡ true
+own_place : (p : PathPlace) → places.ghosts.eq p p ≡ true
 own_place Anywhere = refl
 own_place Start = refl
 own_place Dot = refl
@@ -76,7 +76,7 @@ own_numbers (x ∷ xs) = and_both (nat_eq x x) (bytes_eq xs xs) (eq-eqb x x refl
 
 equal_row : (a b : SearchRow) → a.place ≡ b.place → a.states.items ≡ b.states.items → rows.ghosts.eq a b ≡ true
 equal_row a b place states = and_both (places.ghosts.eq a.place b.place) (bytes_eq a.states.items b.states.items)
-    (subst (λ (p : Place). places.ghosts.eq a.place p ≡ true) place (own_place a.place))
+    (subst (λ (p : PathPlace). places.ghosts.eq a.place p ≡ true) place (own_place a.place))
     (subst (λ (l : List ℕ). bytes_eq a.states.items l ≡ true) states (own_numbers a.states.items))
 
 all_at : {X : Type 0} (P : X → Type 0) (xs : List X) (j : ℕ) (x : X) → AllByRecursion P xs → slice_get xs j ≡ Some x → P x

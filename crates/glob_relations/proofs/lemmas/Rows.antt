@@ -9,7 +9,7 @@ use Rattle.bit_sets.specs.Texts.{AllBytes}
 use Rattle.byte_nfa.specs.Runs.{size}
 use Rattle.byte_nfa.specs.Steps.{NfaValue, IsReached}
 use Rattle.glob_relations.specs.declared.rows.SearchRow.{SearchRow}
-use Rattle.glob_relations.specs.declared.rows.Rows.{Rows}
+use Rattle.glob_relations.specs.declared.rows.SearchRows.{SearchRows}
 use Rattle.glob_relations.specs.declared.rows.Origin.{Origin}
 use Rattle.glob_relations.specs.declared.search.Question.{Question}
 use Rattle.glob_relations.specs.inner.Closed.{IsOpen}
@@ -79,7 +79,7 @@ wants_begins m n row y (place, accepts) =
       λ (ends, w, clear). (subst (λ p. IsTrue (ends_in (Some p) y)) (sym place) ends, wanted.1 w, open_iff n.ignores.items first_rule Q P y (λ z k. ((accepts z k).1, (accepts z k).0)) clear),
     )
 
-module _ (old new : Rows) (row : SearchRow) (origin : Origin) where
+module _ (old new : SearchRows) (row : SearchRow) (origin : Origin) where
   pub adds_kept : AddsRow old new row origin → KeepsRows old new
   adds_kept (inl (keys, origins, there)) = (
     λ i r at. subst (λ (ks : List SearchRow). slice_get ks i ≡ Some r) (sym keys) at,
@@ -226,30 +226,30 @@ module _ (old new : Rows) (row : SearchRow) (origin : Origin) where
             no_row i r e = cc
 
 -- a row of a number that was there
-pub row_back : (old new : Rows) → KeepsRows old new → (i : ℕ) (r : SearchRow) → i < length old.seen.keys → HasRow new i r → HasRow old i r
+pub row_back : (old new : SearchRows) → KeepsRows old new → (i : ℕ) (r : SearchRow) → i < length old.seen.keys → HasRow new i r → HasRow old i r
 row_back old new keeps i r lt at =
     let (q, was) = get_some old.seen.keys i lt in
     subst (λ (x : SearchRow). slice_get old.seen.keys i ≡ Some x) (get_same new.seen.keys i q r (keeps.0 i q was) at) was
 
 module _ (m : NfaValue) (n : Question) where
-  next_kept : (old new : Rows) (i j : ℕ) → KeepsRows old new → IsNext old i j → IsNext new i j
+  next_kept : (old new : SearchRows) (i j : ℕ) → KeepsRows old new → IsNext old i j → IsNext new i j
   next_kept old new i j keeps (inl first) = inl first
   next_kept old new i j keeps (inr (o, at, le)) = inr (o, keeps.1 j o at, le)
 
-  wants_kept : (old new : Rows) (i : ℕ) (y : List ℕ) → KeepsRows old new → WantsNext m n old i y → WantsNext m n new i y
+  wants_kept : (old new : SearchRows) (i : ℕ) (y : List ℕ) → KeepsRows old new → WantsNext m n old i y → WantsNext m n new i y
   wants_kept old new i y keeps (j, r, has, next, wants) = (j, r, keeps.0 j r has, next_kept old new i j keeps next, wants)
 
-  pub followed_kept : (old new : Rows) (i b : ℕ) → KeepsRows old new → i < length old.seen.keys → IsFollowedBy m n old i b → IsFollowedBy m n new i b
+  pub followed_kept : (old new : SearchRows) (i b : ℕ) → KeepsRows old new → i < length old.seen.keys → IsFollowedBy m n old i b → IsFollowedBy m n new i b
   followed_kept old new i b keeps lt is row at y wants = wants_kept old new i y keeps (is row (row_back old new keeps i row lt at) y wants)
 
-  pub done_kept : (old new : Rows) (next : ℕ) → KeepsRows old new → next ≤ length old.seen.keys → AreDone m n old next → AreDone m n new next
+  pub done_kept : (old new : SearchRows) (next : ℕ) → KeepsRows old new → next ≤ length old.seen.keys → AreDone m n old next → AreDone m n new next
   done_kept old new next keeps le done i lt = (
     λ b byte. followed_kept old new i b keeps (omega arith) ((done i lt).0 b byte),
     λ row at. (done i lt).1 row (row_back old new keeps i row (omega arith) at),
   )
 
   -- one row more is done
-  pub done_more : (old new : Rows) (next : ℕ) (row : SearchRow) → KeepsRows old new → next < length old.seen.keys → AreDone m n old next → IsFollowed m n new next → HasRow old next row → (WantsRow m n row [] → ⊥)
+  pub done_more : (old new : SearchRows) (next : ℕ) (row : SearchRow) → KeepsRows old new → next < length old.seen.keys → AreDone m n old next → IsFollowed m n new next → HasRow old next row → (WantsRow m n row [] → ⊥)
       → AreDone m n new (next + 1)
   done_more old new next row keeps lt done followed has none i below = ⊎_elim {C = IsFollowed m n new i × ((r : SearchRow) → HasRow new i r → WantsRow m n r [] → ⊥)}
       (λ low. done_kept old new next keeps (omega arith) done i low)
@@ -258,7 +258,7 @@ module _ (m : NfaValue) (n : Question) where
       (cases_lt i next)
 
   -- nothing is wanted from rows that are all done
-  pub none_wanted : (rows : Rows) (next : ℕ) → AreDone m n rows next → length rows.seen.keys ≤ next → (y : List ℕ) → AllBytes y → (i : ℕ) (row : SearchRow) → HasRow rows i row → WantsRow m n row y → ⊥
+  pub none_wanted : (rows : SearchRows) (next : ℕ) → AreDone m n rows next → length rows.seen.keys ≤ next → (y : List ℕ) → AllBytes y → (i : ℕ) (row : SearchRow) → HasRow rows i row → WantsRow m n row y → ⊥
   none_wanted rows next done le [] bytes i row at wants =
       let lt = slice_get_within rows.seen.keys i row at in (done i (omega arith)).1 row at wants
   none_wanted rows next done le (b ∷ y) (byte, bytes) i row at wants =
@@ -266,23 +266,23 @@ module _ (m : NfaValue) (n : Question) where
       let (j, r, has, next', w) = (done i (omega arith)).0 b byte row at y wants in
       none_wanted rows next done le y bytes j r has w
 
-  pub nothing_wanted : (rows : Rows) (next : ℕ) → AreRows m n rows → AreDone m n rows next → length rows.seen.keys ≤ next → (y : List ℕ) → IsAskedText m n y → ⊥
+  pub nothing_wanted : (rows : SearchRows) (next : ℕ) → AreRows m n rows → AreDone m n rows next → length rows.seen.keys ≤ next → (y : List ℕ) → IsAskedText m n y → ⊥
   nothing_wanted rows next is done le y (bytes, wants) =
       let (row, at) = get_some rows.seen.keys 0 is.some in
       none_wanted rows next done le y bytes 0 row at ((wants_begins m n row y (is.begins row at)).1 wants)
 
 -- a row that is not the first is one deeper than that which it came from
-pub origin_deep : (rows : Rows) (i d : ℕ) (origin : Origin) → 0 < i → HasOrigin rows i origin → IsDeep rows d i → (e : ℕ) × IsDeep rows e origin.row × (suc e ≡ d)
+pub origin_deep : (rows : SearchRows) (i d : ℕ) (origin : Origin) → 0 < i → HasOrigin rows i origin → IsDeep rows d i → (e : ℕ) × IsDeep rows e origin.row × (suc e ≡ d)
 origin_deep rows i zero origin pos from deep = absurd (omega arith)
 origin_deep rows i (suc d) origin pos from (pos', (o, at, deep)) =
     (d, subst (λ (q : Origin). IsDeep rows d q.row) (get_same rows.origins.items i o origin at from) deep, refl)
 
-pub first_deep : (rows : Rows) (i d : ℕ) → i ≡ 0 → IsDeep rows d i → d ≡ 0
+pub first_deep : (rows : SearchRows) (i d : ℕ) → i ≡ 0 → IsDeep rows d i → d ≡ 0
 first_deep rows i zero first deep = refl
 first_deep rows i (suc d) first (pos, deep) = absurd (omega arith)
 
 -- Rows are in the order of their depths.
-module _ (m : NfaValue) (n : Question) (rows : Rows) (is : AreRows m n rows) where
+module _ (m : NfaValue) (n : Question) (rows : SearchRows) (is : AreRows m n rows) where
   deep_order : (d e i j : ℕ) → IsDeep rows d i → IsDeep rows e j → i ≤ j → d ≤ e
   deep_order zero e i j deep deep' le = omega arith
   deep_order (suc d) zero i j (pos, deep) deep' le = absurd (omega arith)
@@ -344,7 +344,7 @@ module _ (m : NfaValue) (n : Question) (rows : Rows) (is : AreRows m n rows) whe
   )
 
 -- where rows came from
-pub origin_low : (m : NfaValue) (n : Question) (rows : Rows) → AreRows m n rows → (i : ℕ) (origin : Origin) → 0 < i → slice_get rows.origins.items i ≡ Some origin → (origin.row < i) × (origin.byte < 256)
+pub origin_low : (m : NfaValue) (n : Question) (rows : SearchRows) → AreRows m n rows → (i : ℕ) (origin : Origin) → 0 < i → slice_get rows.origins.items i ≡ Some origin → (origin.row < i) × (origin.byte < 256)
 origin_low m n rows is i origin pos from =
     let lt = slice_get_within rows.origins.items i origin from in
     let len = is.len in
@@ -357,7 +357,7 @@ all_push [] b all lt = (lt, tt)
 all_push (x ∷ xs) b (first, rest) lt = (first, all_push xs b rest lt)
 
 -- some path leads to each row
-led_to : (m : NfaValue) (n : Question) (rows : Rows) → AreRows m n rows → (bound i : ℕ) → i < bound → (row : SearchRow) → HasRow rows i row → IsLedTo m n.domain row
+led_to : (m : NfaValue) (n : Question) (rows : SearchRows) → AreRows m n rows → (bound i : ℕ) → i < bound → (row : SearchRow) → HasRow rows i row → IsLedTo m n.domain row
 led_to m n rows is zero i lt row at = absurd (omega arith)
 led_to m n rows is (suc bound) zero lt row at =
     let (place, accepts) = is.begins row at in
@@ -375,7 +375,7 @@ led_to m n rows is (suc bound) (suc i) lt row at =
           (λ h. (accepts (o.byte ∷ z) k).0 ((goes.1 z k).1 h), λ h. (goes.1 z k).0 ((accepts (o.byte ∷ z) k).1 h)),
     )
 
-pub more_rows : (m : NfaValue) (n : Question) (rows : Rows) (limit : ℕ) → AreRows m n rows → limit < length rows.seen.keys → AreDifferent rows.seen.keys → HasMoreRows m n.domain limit
+pub more_rows : (m : NfaValue) (n : Question) (rows : SearchRows) (limit : ℕ) → AreRows m n rows → limit < length rows.seen.keys → AreDifferent rows.seen.keys → HasMoreRows m n.domain limit
 more_rows m n rows limit is more different = (
   rows.seen.keys,
   more,

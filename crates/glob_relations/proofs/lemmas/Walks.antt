@@ -10,7 +10,7 @@ use Rattle.bit_sets.specs.declared.state_set.StateSet.{StateSet}
 use Rattle.byte_nfa.specs.Runs.{size, AcceptsFrom}
 use Rattle.byte_nfa.specs.Steps.{NfaValue, IsReached}
 use Rattle.byte_nfa.proofs.lemmas.Pass.{iff_trans}
-use Rattle.glob_relations.specs.declared.rows.Rows.{Rows}
+use Rattle.glob_relations.specs.declared.rows.SearchRows.{SearchRows}
 use Rattle.glob_relations.specs.declared.search.Question.{Question}
 use Rattle.glob_relations.specs.inner.Rows.{AcceptsIn, AreAlike, AreRepresentatives, IsFollowed, IsFollowedBy, KeepsRows}
 use Rattle.glob_relations.proofs.lemmas.Classes.{wants_alike}
@@ -29,14 +29,14 @@ module _ (m : NfaValue) (set : StateSet) (count : ℕ) (same : count ≡ size m)
   pub next_accepts : (states : List ℕ) (b : ℕ) → ((y : List ℕ) (k : ℕ) → AcceptsIn m states (b ∷ y) k ↔ AcceptsFrom m set y k) → (y : List ℕ) (k : ℕ) → AcceptsIn m states (b ∷ y) k ↔ AcceptsIn m list y k
   next_accepts states b steps y k = iff_trans (steps y k) (listed y k)
 
-pub kept_within : (old new : Rows) (i : ℕ) → KeepsRows old new → i < length old.seen.keys → i < length new.seen.keys
+pub kept_within : (old new : SearchRows) (i : ℕ) → KeepsRows old new → i < length old.seen.keys → i < length new.seen.keys
 kept_within old new i keeps lt =
     let (row, at) = get_some old.seen.keys i lt in
     slice_get_within new.seen.keys i row (keeps.0 i row at)
 
 module _ (m : NfaValue) (n : Question) (number : ℕ) (bytes : List ℕ) where
   -- one byte more of a list
-  pub followed_more : (old new : Rows) (i : ℕ) → KeepsRows old new → number < length old.seen.keys → ((j : ℕ) → j < i → IsFollowedBy m n old number (slice_index bytes j))
+  pub followed_more : (old new : SearchRows) (i : ℕ) → KeepsRows old new → number < length old.seen.keys → ((j : ℕ) → j < i → IsFollowedBy m n old number (slice_index bytes j))
       → IsFollowedBy m n new number (slice_index bytes i) → (j : ℕ) → j < i + 1 → IsFollowedBy m n new number (slice_index bytes j)
   followed_more old new i keeps lt before here j below = ⊎_elim {C = IsFollowedBy m n new number (slice_index bytes j)}
       (λ low. followed_kept m n old new number (slice_index bytes j) keeps lt (before j low))
@@ -44,7 +44,7 @@ module _ (m : NfaValue) (n : Question) (number : ℕ) (bytes : List ℕ) where
       (cases_lt j i)
 
   -- all of them
-  pub followed_all : (rows : Rows) (i : ℕ) → length bytes ≤ i → AreRepresentatives m bytes → ((j : ℕ) → j < i → IsFollowedBy m n rows number (slice_index bytes j)) → IsFollowed m n rows number
+  pub followed_all : (rows : SearchRows) (i : ℕ) → length bytes ≤ i → AreRepresentatives m bytes → ((j : ℕ) → j < i → IsFollowedBy m n rows number (slice_index bytes j)) → IsFollowed m n rows number
   followed_all rows i all are each c lt row at y wants =
       let (b, (j, within, is), alike) = are c lt in
       let same : slice_index bytes j ≡ b = at_any bytes j b within ∙ is in

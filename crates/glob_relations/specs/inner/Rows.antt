@@ -9,11 +9,11 @@ use Rattle.byte_nfa.specs.Runs.{size}
 use Rattle.byte_nfa.specs.Equivalent.{AreEquivalent}
 use Rattle.glob_relations.specs.declared.domain.Domain.{Domain}
 use Rattle.glob_relations.specs.declared.rows.SearchRow.{SearchRow}
-use Rattle.glob_relations.specs.declared.rows.Rows.{Rows}
+use Rattle.glob_relations.specs.declared.rows.SearchRows.{SearchRows}
 use Rattle.glob_relations.specs.declared.rows.Origin.{Origin}
 use Rattle.glob_relations.specs.declared.search.Question.{Question}
-use Rattle.glob_relations.specs.declared.search.Answer.{Answer}
-use Rattle.glob_relations.specs.declared.search.Answer.TheVariants.{Found, Nothing, Limit}
+use Rattle.glob_relations.specs.declared.search.SearchAnswer.{SearchAnswer}
+use Rattle.glob_relations.specs.declared.search.SearchAnswer.TheVariants.{Found, Nothing, Limit}
 use Rattle.glob_relations.specs.Shortest.{IsShortest}
 use Rattle.glob_relations.specs.inner.Closed.{IsClosed, IsOpen}
 use Rattle.glob_relations.specs.inner.Places.{kind_of, place_after, first_place, ends_in}
@@ -47,28 +47,28 @@ abbrev pub IsStopped : NfaValue → Question → SearchRow → ℕ → Type 0
 IsStopped m n row b = (b ≡ 47) × IsClosed n.ignores.items first_rule (AcceptsIn m row.states.items [])
 
 -- the row has the number i
-abbrev pub HasRow : Rows → ℕ → SearchRow → Type 0
+abbrev pub HasRow : SearchRows → ℕ → SearchRow → Type 0
 HasRow rows i row = slice_get rows.seen.keys i ≡ Some row
 
 -- the origin of the row of the number i; the origin of the first row means nothing
-abbrev pub HasOrigin : Rows → ℕ → Origin → Type 0
+abbrev pub HasOrigin : SearchRows → ℕ → Origin → Type 0
 HasOrigin rows i origin = slice_get rows.origins.items i ≡ Some origin
 
 -- the row of the number j is the first row, or came from the row of the number i or an earlier row
-abbrev pub IsNext : Rows → ℕ → ℕ → Type 0
+abbrev pub IsNext : SearchRows → ℕ → ℕ → Type 0
 IsNext rows i j = (j ≡ 0) ⊎ ((origin : Origin) × HasOrigin rows j origin × (origin.row ≤ i))
 
 -- the text leads to a wanted end from some row j for which `IsNext` holds
-abbrev pub WantsNext : NfaValue → Question → Rows → ℕ → List ℕ → Type 0
+abbrev pub WantsNext : NfaValue → Question → SearchRows → ℕ → List ℕ → Type 0
 WantsNext m n rows i y = (j : ℕ) × (r : SearchRow) × HasRow rows j r × IsNext rows i j × WantsRow m n r y
 
 -- `depth` bytes led from the first row to the row of the number i
-abbrev pub IsDeep : Rows → ℕ → ℕ → Type 0
+abbrev pub IsDeep : SearchRows → ℕ → ℕ → Type 0
 IsDeep rows zero i = i ≡ 0
 IsDeep rows (suc depth) i = (0 < i) × ((origin : Origin) × HasOrigin rows i origin × IsDeep rows depth origin.row)
 
 -- each row except the first came from a row below the number
-abbrev pub CameBefore : Rows → ℕ → Type 0
+abbrev pub CameBefore : SearchRows → ℕ → Type 0
 CameBefore rows number = (i : ℕ) (origin : Origin) → 0 < i → HasOrigin rows i origin → origin.row < number
 
 -- paths begin in the row
@@ -84,11 +84,11 @@ abbrev pub GoesNowhere : NfaValue → Question → SearchRow → ℕ → Type 0
 GoesNowhere m n row b = (place_after row.place b ≡ None) ⊎ IsStopped m n row b
 
 -- the row came from a lower row by a byte
-abbrev pub CameFrom : NfaValue → Question → Rows → ℕ → SearchRow → Origin → Type 0
+abbrev pub CameFrom : NfaValue → Question → SearchRows → ℕ → SearchRow → Origin → Type 0
 CameFrom m n rows i row origin = (p : SearchRow) × (origin.row < i) × (origin.byte < 256) × HasRow rows origin.row p × GoesTo m n p origin.byte row
 
 -- the invariant of the rows so far
-pub record AreRows (m : NfaValue) (n : Question) (rows : Rows) : Type 0 where
+pub record AreRows (m : NfaValue) (n : Question) (rows : SearchRows) : Type 0 where
   pub some : 0 < length rows.seen.keys
   pub len : length rows.origins.items ≡ length rows.seen.keys
   pub below : (i : ℕ) (row : SearchRow) → HasRow rows i row → AreStates (size m) row.states.items
@@ -111,25 +111,25 @@ HasMoreRows m domain limit = (rows : List SearchRow) × (limit < length rows) ×
     × ((i : ℕ) (row : SearchRow) → slice_get rows i ≡ Some row → AreStates (size m) row.states.items × IsLedTo m domain row)
 
 -- each row is still there, with its origin
-abbrev pub KeepsRows : Rows → Rows → Type 0
+abbrev pub KeepsRows : SearchRows → SearchRows → Type 0
 KeepsRows old new = ((i : ℕ) (row : SearchRow) → HasRow old i row → HasRow new i row) × ((i : ℕ) (origin : Origin) → HasOrigin old i origin → HasOrigin new i origin)
 
 -- the row was there, or was added
-abbrev pub AddsRow : Rows → Rows → SearchRow → Origin → Type 0
+abbrev pub AddsRow : SearchRows → SearchRows → SearchRow → Origin → Type 0
 AddsRow old new row origin =
     ((new.seen.keys ≡ old.seen.keys) × (new.origins.items ≡ old.origins.items) × ((i : ℕ) × (r : SearchRow) × HasRow old i r × (r.place ≡ row.place) × (r.states.items ≡ row.states.items)))
     ⊎ ((new.seen.keys ≡ old.seen.keys ++ row ∷ []) × (new.origins.items ≡ old.origins.items ++ origin ∷ []))
 
 -- each text that leads to a wanted end from the row of the number i after the byte does so from some row that `IsNext` allows
-abbrev pub IsFollowedBy : NfaValue → Question → Rows → ℕ → ℕ → Type 0
+abbrev pub IsFollowedBy : NfaValue → Question → SearchRows → ℕ → ℕ → Type 0
 IsFollowedBy m n rows i b = (row : SearchRow) → HasRow rows i row → (y : List ℕ) → WantsRow m n row (b ∷ y) → WantsNext m n rows i y
 
 -- the same of each byte
-abbrev pub IsFollowed : NfaValue → Question → Rows → ℕ → Type 0
+abbrev pub IsFollowed : NfaValue → Question → SearchRows → ℕ → Type 0
 IsFollowed m n rows i = (b : ℕ) → b < 256 → IsFollowedBy m n rows i b
 
 -- the rows below a number are not wanted themselves, and followed
-abbrev pub AreDone : NfaValue → Question → Rows → ℕ → Type 0
+abbrev pub AreDone : NfaValue → Question → SearchRows → ℕ → Type 0
 AreDone m n rows next = (i : ℕ) → i < next → IsFollowed m n rows i × ((row : SearchRow) → HasRow rows i row → WantsRow m n row [] → ⊥)
 
 -- bytes that states read alike, and paths of domains
@@ -162,15 +162,15 @@ IsWantedText m required domain y = AllBytes y × LeadsFrom m required domain y
 
 -- the answer of a search for texts that have a property: a shortest one, or that there is none, or that there are more rows than
 -- the limit
-abbrev pub TellsText : (List ℕ → Type 0) → NfaValue → Domain → ℕ → Answer → Type 0
+abbrev pub TellsText : (List ℕ → Type 0) → NfaValue → Domain → ℕ → SearchAnswer → Type 0
 TellsText P m domain limit (Found path) = IsShortest P path.items
 TellsText P m domain limit Nothing = (y : List ℕ) → P y → ⊥
 TellsText P m domain limit Limit = HasMoreRows m domain limit
 
 -- the answer of a search for the texts of a question
-abbrev pub TellsAsked : NfaValue → Question → ℕ → Answer → Type 0
+abbrev pub TellsAsked : NfaValue → Question → ℕ → SearchAnswer → Type 0
 TellsAsked m n limit answer = TellsText (IsAskedText m n) m n.domain limit answer
 
 -- and where no folder is ignored
-abbrev pub TellsSearch : NfaValue → ℕ → Domain → ℕ → Answer → Type 0
+abbrev pub TellsSearch : NfaValue → ℕ → Domain → ℕ → SearchAnswer → Type 0
 TellsSearch m required domain limit answer = TellsText (IsWantedText m required domain) m domain limit answer

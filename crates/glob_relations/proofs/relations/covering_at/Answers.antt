@@ -1,6 +1,6 @@
 use Rattle.std.proofs.Common.{◌∷◌, sym, subst}
 use Rattle.glob_relations.specs.Unused.{items_at}
-use Rattle.glob_relations.specs.declared.search.Answer.TheVariants.{Found, Nothing, Limit}
+use Rattle.glob_relations.specs.declared.search.SearchAnswer.TheVariants.{Found, Nothing, Limit}
 use Rattle.glob_relations.specs.inner.Automata.{IsFor, under}
 use Rattle.glob_relations.proofs.lemmas.Automata.{told_covering}
 use Rattle.glob_relations.proofs.relations.covering_at.Goals as goal

@@ -1,7 +1,7 @@
 use Rattle.std.proofs.Common.{[], ◌∷◌, sym, subst}
 use Rattle.byte_nfa.specs.Steps.{NfaValue}
 use Rattle.glob_text.specs.GlobMatches.{glob_matches}
-use Rattle.glob_relations.specs.declared.search.Answer.TheVariants.{Found, Nothing, Limit}
+use Rattle.glob_relations.specs.declared.search.SearchAnswer.TheVariants.{Found, Nothing, Limit}
 use Rattle.glob_relations.specs.inner.Automata.{IsFor}
 use Rattle.glob_relations.proofs.lemmas.Automata.{told_overlap}
 use Rattle.glob_relations.proofs.relations.overlap.Goals as goal

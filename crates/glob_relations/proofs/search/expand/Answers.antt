@@ -1,7 +1,7 @@
 use Rattle.std.proofs.Common.{◌+◌, ◌∷◌, arith, subst, sym, ◌∙◌, true≢false}
 use Rattle.std.specs.Prelude.{slice_index}
 use Rattle.glob_relations.specs.declared.rows.SearchRow.{SearchRow}
-use Rattle.glob_relations.specs.declared.rows.Rows.{Rows}
+use Rattle.glob_relations.specs.declared.rows.SearchRows.{SearchRows}
 use Rattle.glob_relations.specs.declared.rows.Origin.{Origin}
 use Rattle.glob_relations.specs.inner.Rows.{AddsRow, AreRows, CameBefore, IsFollowedBy, KeepsRows, WantsRow}
 use Rattle.glob_relations.proofs.lemmas.Rows.{adds_sound, adds_before, adds_kept, adds_wanted, get_same, row_back, wants_goes, wants_past}

@@ -2,7 +2,7 @@ use Rattle.std.proofs.Common.{◌≡◌, List, Some, inl, refl, sym, subst}
 use Rattle.std.specs.Prelude.{slice_get}
 use Rattle.glob_relations.specs.declared.rows.SearchRow.{SearchRow}
 use Rattle.glob_relations.proofs.lemmas.Equal.{same_row, kept_keys}
-use Rattle.glob_relations.proofs.rows.Rows.add.Goals as goal
+use Rattle.glob_relations.proofs.rows.SearchRows.add.Goals as goal
 
 pub returns-else-is_new : goal.returns-else-is_new
 returns-else-is_new c =

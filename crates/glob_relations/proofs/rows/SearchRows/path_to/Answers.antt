@@ -5,7 +5,7 @@ use Rattle.std.proofs.lemmas.Option.{slice_get_read}
 use Rattle.bit_sets.specs.Texts.{AllBytes}
 use Rattle.glob_relations.specs.inner.Rows.{HasRow, WantsRow, WantsFrom}
 use Rattle.glob_relations.proofs.lemmas.Rows.{origin_deep, first_deep, wants_goes, wants_begins}
-use Rattle.glob_relations.proofs.rows.Rows.path_to.Goals as goal
+use Rattle.glob_relations.proofs.rows.SearchRows.path_to.Goals as goal
 
 pub loop-at-init : goal.loop-at-init
 loop-at-init c = rw c.new-path.ensures.items record {

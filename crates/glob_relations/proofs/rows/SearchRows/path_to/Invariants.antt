@@ -5,7 +5,7 @@ use Rattle.byte_nfa.specs.Steps.{NfaValue}
 use Rattle.glob_relations.specs.declared.rows.SearchRow.{SearchRow}
 use Rattle.glob_relations.specs.declared.search.Question.{Question}
 use Rattle.glob_relations.specs.inner.Rows.{AreRows, HasRow, IsDeep, WantsRow}
-use Rattle.glob_relations.proofs.rows.Rows.path_to.Given as goal
+use Rattle.glob_relations.proofs.rows.SearchRows.path_to.Given as goal
 
 abbrev pub invariant-loop-at : goal.invariant-loop-at
 invariant-loop-at l = record {
