@@ -1,6 +1,6 @@
 //! The rules of a file with the memory to decide with.
 
-ghost use Rattle.std.specs.Prelude.{◌≡◌, true, IfOk};
+ghost use Rattle.std.specs.Prelude.{◌≡◌, IfOk};
 ghost use Rattle.git_ignore.specs.Rules.{decision_of};
 ghost use Rattle.git_ignore.specs.RulesValue.{rules_rule};
 

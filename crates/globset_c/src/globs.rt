@@ -1,6 +1,6 @@
 //! Globs: reading one, what it has, and escaping a text.
 
-ghost use Rattle.std.specs.Prelude.{◌≡◌, ◌≢◌, Some, Err, [], ◌∷◌, IfOk, IfErr, OnOk, None, string_bytes};
+ghost use Rattle.std.specs.Prelude.{◌≡◌, ◌≢◌, Some, Err, [], ◌∷◌, IfOk, IfErr, OnOk, None};
 ghost use Rattle.std.specs.Str.{IsUtf8};
 ghost use Rattle.glob_text.specs.Errors.{IsParseErrorOf};
 ghost use Rattle.glob_text.specs.GlobMatches.{tokens_of_glob, IsRead};

@@ -5,7 +5,7 @@ ghost use Rattle.std.specs.List.{prefix_len};
 ghost use Rattle.std.specs.Option.{option_map};
 ghost use Rattle.ignore_pattern.specs.Elements.{crossing_at, run_at, class_after, class_at, escaped_at, element_at, elements};
 ghost use Rattle.ignore_pattern.specs.declared.place.Place.TheVariants.{Start};
-ghost use Rattle.ignore_pattern.specs.inner.Views.{element_of, elements_of, at_of};
+ghost use Rattle.ignore_pattern.specs.inner.Views.{elements_of, at_of};
 
 use crate::class::class_items;
 use crate::item::Item;

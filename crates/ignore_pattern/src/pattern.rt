@@ -1,7 +1,6 @@
 //! The pattern of a line.
 
 ghost use Rattle.std.specs.Prelude.{◌≡◌, true, IfOk};
-ghost use Rattle.std.specs.Option.{option_map};
 ghost use Rattle.ignore_pattern.specs.Patterns.{Pattern, pattern_of_line};
 ghost use Rattle.ignore_pattern.specs.inner.Views.{are_inside, elements_of, pattern_of};
 

@@ -1,6 +1,6 @@
 //! The states of elements, from the last element to the first.
 
-ghost use Rattle.std.specs.Prelude.{◌≡◌, ◌<◌, ◌==◌, IfOk, false};
+ghost use Rattle.std.specs.Prelude.{◌<◌, ◌==◌, IfOk, false};
 ghost use Rattle.byte_nfa.specs.Runs.{size};
 ghost use Rattle.ignore_pattern.specs.Classes.{compared, class_matches};
 ghost use Rattle.ignore_pattern.specs.Elements.{Folders, is_inner, element_matches, elements_match};
