@@ -15,6 +15,7 @@ use rules::Rules;
 use std::alloc::{AllocError, Global};
 use std::process::ExitCode;
 
+/// The command `check`: its name and its help.
 pub const COMMAND: Command = Command {
     name: "check",
     help: "usage: examples check [--overlaps|--ignore] FILE

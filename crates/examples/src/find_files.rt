@@ -10,6 +10,7 @@ use arguments::Arguments;
 use std::process::ExitCode;
 use walk::Walk;
 
+/// The command `find_files`: its name and its help.
 pub const COMMAND: Command = Command {
     name: "find_files",
     help: "usage: examples find_files [OPTION..] FOLDER GLOB..

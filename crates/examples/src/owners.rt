@@ -9,6 +9,7 @@ use globset::Candidate;
 use std::alloc::Global;
 use std::process::ExitCode;
 
+/// The command `owners`: its name and its help.
 pub const COMMAND: Command = Command {
     name: "owners",
     help: "usage: examples owners FILE < PATHS

@@ -24,10 +24,11 @@ rules_from n (line ∷ lines) = elim (pattern_of_line line) [ None ↦ rules_fro
 unfoldable pub rules_of : List ℕ → List Rule
 rules_of file = rules_from 1 (file_lines file)
 
--- the patterns of rules, and the numbers of their lines
+-- the patterns of rules
 abbrev pub patterns_of : List Rule → List Pattern
 patterns_of rules = map (λ (rule : Rule). rule.pattern) rules
 
+-- the numbers of their lines
 abbrev pub lines_of_rules : List Rule → List ℕ
 lines_of_rules rules = map (λ (rule : Rule). rule.line) rules
 

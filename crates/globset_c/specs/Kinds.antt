@@ -38,7 +38,7 @@ abbrev pub IfSearcher : Option Object → (SearcherValue → Type 0) → Type 0
 IfSearcher (Some (Searcher s)) P = P s
 IfSearcher _ P = ⊥
 
--- it is answers about globs, and P of them
+-- it is answers about globs or rules, and P of them
 abbrev pub IfAnswers : Option Object → (AnswersValue → Type 0) → Type 0
 IfAnswers (Some (Answers a)) P = P a
 IfAnswers _ P = ⊥
@@ -56,26 +56,34 @@ IfIgnores old new P = IfIgnore old (λ s. IfIgnore new (λ t. P s t))
 abbrev pub IfSearchers : Option Object → Option Object → (SearcherValue → SearcherValue → Type 0) → Type 0
 IfSearchers old new P = IfSearcher old (λ s. IfSearcher new (λ t. P s t))
 
+-- it is a glob
 abbrev pub IsGlob : Option Object → Type 0
 IsGlob o = IfGlob o (λ _. ⊤)
 
+-- it is a matcher
 abbrev pub IsMatcher : Option Object → Type 0
 IsMatcher o = IfMatcher o (λ _. ⊤)
 
+-- it is a searcher of a matcher
 abbrev pub IsMatcherSearcher : Option Object → Type 0
 IsMatcherSearcher o = IfMatcherSearcher o (λ _. ⊤)
 
+-- it is a builder
 abbrev pub IsBuilder : Option Object → Type 0
 IsBuilder o = IfBuilder o (λ _. ⊤)
 
+-- it is a set
 abbrev pub IsSet : Option Object → Type 0
 IsSet o = IfSet o (λ _. ⊤)
 
+-- it is a searcher
 abbrev pub IsSearcher : Option Object → Type 0
 IsSearcher o = IfSearcher o (λ _. ⊤)
 
+-- it is answers about globs or rules
 abbrev pub IsAnswers : Option Object → Type 0
 IsAnswers o = IfAnswers o (λ _. ⊤)
 
+-- it is a walk with its ignore files
 abbrev pub IsIgnore : Option Object → Type 0
 IsIgnore o = IfIgnore o (λ _. ⊤)

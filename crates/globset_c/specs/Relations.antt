@@ -96,21 +96,25 @@ pub data Told : Type 0 where
   below_ignored : List ℕ → Told
   limit_reached : Told
 
+-- what it tells whether others cover a glob: a path that they miss, or that there is none
 abbrev pub told_coverage : Coverage → Told
 told_coverage coverage.Covered = no_path []
 told_coverage (coverage.Not path) = a_path path.items
 told_coverage coverage.Unknown = limit_reached
 
+-- what it tells whether two globs match a path in common: such a path, or that there is none
 abbrev pub told_intersection : Intersection → Told
 told_intersection intersection.Disjoint = no_path []
 told_intersection (intersection.Both path) = a_path path.items
 told_intersection intersection.Unknown = limit_reached
 
+-- what it tells whether a glob of a list ever decides: a path for which it does, or the indexes of globs that cover it
 abbrev pub told_reachability : Reachability → Told
 told_reachability (reachability.Decides path) = a_path path.items
 told_reachability (reachability.Never indexes) = no_path indexes.items
 told_reachability reachability.Unknown = limit_reached
 
+-- the same of a rule, which may also be hidden by ignored folders: then the index of the rule that ignores one
 abbrev pub told_rule_reachability : RuleReachability → Told
 told_rule_reachability (rule.Decides path) = a_path path.items
 told_rule_reachability (rule.Never indexes) = no_path indexes.items

@@ -9,6 +9,7 @@ use Rattle.ignore_pattern.specs.declared.item.Item.{Item}
 use Rattle.ignore_pattern.specs.declared.place.Place.{Place}
 use Rattle.ignore_pattern.specs.declared.place.Place.TheVariants.{Start, AfterSlash, Elsewhere}
 
+-- An element of a pattern: a byte, or a wildcard or class that stands for bytes.
 pub data Element : Type 0 where
   -- a byte that stands for itself
   Literal : ℕ → Element
@@ -87,6 +88,7 @@ pub record ElementAt : Type 0 where
   pub more : ℕ
   pub place : Place
 
+-- these three as a value
 abbrev pub at : Element → ℕ → Place → ElementAt
 at element more place = record { element = element; more = more; place = place }
 

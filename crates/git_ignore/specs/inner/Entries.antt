@@ -53,6 +53,7 @@ rule_at number (Some p) = record { line = number; pattern = p } ∷ []
 abbrev pub unread_at : ℕ → Bool → List ℕ
 unread_at number is_unread = if is_unread then number ∷ [] else []
 
+-- the entry of each rule
 abbrev pub entries_of : List Rule → List RuleEntry
 entries_of rules = map entry_of rules
 
@@ -81,6 +82,7 @@ pub record StoredValue : Type 0 where
   pub automaton : NfaValue
   pub rules : ℕ
 
+-- the rules as public calls see them: the number of states stands for the automaton
 abbrev pub rules_value : StoredValue → RulesValue
 rules_value s = record { file = s.file; ignore_case = s.ignore_case; states = size s.automaton; rules = s.rules }
 

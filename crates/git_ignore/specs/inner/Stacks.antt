@@ -11,6 +11,7 @@ use Rattle.git_ignore.specs.declared.stack.FolderLevel.{FolderLevel}
 abbrev pub file_of : FolderRules → IgnoreFile
 file_of r = record { folder = r.folder.items; bytes = r.rules.file; ignore_case = r.rules.ignore_case }
 
+-- the ignore files of several rules, in the same order
 abbrev pub files_of : List FolderRules → List IgnoreFile
 files_of files = map file_of files
 

@@ -10,5 +10,6 @@ flat gnil xs = 0 ∷ xs
 flat (gnum n) xs = 1 ∷ n ∷ xs
 flat (gcons a b) xs = 2 ∷ flat a (flat b xs)
 
+-- the automaton as a list of numbers, which no other automaton has
 abbrev pub numbers : NfaValue → List ℕ
 numbers nfa = flat (Nfa.the_row.coded.code nfa) []

@@ -33,5 +33,6 @@ indexed_rules x rivals xs = (x, 0) ∷ under 1 rivals ++ numbered 2 xs
 abbrev pub FindsFrom : {A : Type 0} → (A → List ℕ → Bool) → ℕ → List A → NfaValue → Type 0
 FindsFrom {A} matches first xs m = (k : ℕ) (x : A) (path : List ℕ) → slice_get xs k ≡ Some x → AllBytes path → IsReached m path (first + k) ↔ IsTrue (matches x path)
 
+-- the same where the items are counted from 0 on
 abbrev pub FindsEach : {A : Type 0} → (A → List ℕ → Bool) → List A → NfaValue → Type 0
 FindsEach {A} matches xs m = (k : ℕ) (x : A) (path : List ℕ) → slice_get xs k ≡ Some x → AllBytes path → IsReached m path k ↔ IsTrue (matches x path)

@@ -7,6 +7,7 @@ use Rattle.ignore_pattern.specs.Patterns.{Pattern}
 abbrev pub IsClosedBy : List Bool → ℕ → (ℕ → Type 0) → ℕ → Type 0
 IsClosedBy ignores first P k = (slice_get ignores k ≡ Some true) × P (first + k) × ((j : ℕ) → k < j → j < length ignores → P (first + j) → ⊥)
 
+-- The last rule whose index has the property ignores folders, and there is such a rule.
 abbrev pub IsClosed : List Bool → ℕ → (ℕ → Type 0) → Type 0
 IsClosed ignores first P = (k : ℕ) × IsClosedBy ignores first P k
 

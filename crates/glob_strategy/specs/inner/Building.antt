@@ -16,21 +16,27 @@ pub record Grows (old new : NfaValue) : Type 0 where
 
 -- In each of these, the states that were added lead from s to e, in each list of states that agrees with them.
 
+-- the states of these bytes of a literal
 abbrev pub BuildsText : Options → List ℕ → List State → List State → ℕ → ℕ → Type 0
 BuildsText o bytes old new s e = (a : List State) → Agrees a new (length old) (length new) → IsSpelled o a s bytes e
 
+-- states that read nothing, or any bytes that end in `/`
 abbrev pub BuildsToSlash : List State → List State → ℕ → ℕ → Type 0
 BuildsToSlash old new s e = (a : List State) → Agrees a new (length old) (length new) → IsToSlash a s e
 
+-- states that read bytes that pass these tests, in order
 abbrev pub BuildsRow : List (ℕ → Bool) → List State → List State → ℕ → ℕ → Type 0
 BuildsRow tests old new s e = (a : List State) → Agrees a new (length old) (length new) → ReadsEach a s tests e
 
+-- the states of a `?` that matches a whole character
 abbrev pub BuildsCharacter : Options → List State → List State → ℕ → ℕ → Type 0
 BuildsCharacter o old new s e = (a : List State) → Agrees a new (length old) (length new) → IsCharacter o a s e
 
+-- the states of this token
 abbrev pub BuildsToken : Options → Token → List State → List State → ℕ → ℕ → Type 0
 BuildsToken o t old new s e = (a : List State) → Agrees a new (length old) (length new) → IsBuiltToken o a s t e
 
+-- the states of these tokens, one after another
 abbrev pub Builds : Options → Tokens → List State → List State → ℕ → ℕ → Type 0
 Builds o ts old new s e = (a : List State) → Agrees a new (length old) (length new) → IsBuilt o a s ts e
 

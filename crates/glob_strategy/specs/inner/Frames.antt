@@ -23,6 +23,7 @@ pub record Frame : Type 0 where
   pub starts : List ℕ
   pub rest_blank : Bool
 
+-- these five as a value
 abbrev pub frame : ℕ → Bool → ℕ → List ℕ → Bool → Frame
 frame start blank exit starts rest_blank = record {
   start = start;
@@ -50,6 +51,7 @@ fresh e = frame e true e [] true
 abbrev pub led : ℕ → Bool → Frame → Frame
 led s b f = frame s (b && f.blank) f.exit f.starts f.rest_blank
 
+-- the starts of kept branches, and before them that of another branch, if it is kept
 abbrev pub with_start : Bool → ℕ → List ℕ → List ℕ
 with_start true s ss = s ∷ ss
 with_start false s ss = ss
@@ -92,9 +94,11 @@ abbrev pub AreWithin : ℕ → List Frame → Type 0
 AreWithin n [] = Unit {0}
 AreWithin n (f ∷ fs) = (f.start < n) × (f.exit < n) × AreBelow n f.starts × AreWithin n fs
 
+-- the states that were added are those of these levels, in each list of states that agrees with them
 abbrev pub BuildsLevels : Options → List Frame → List Branches → List State → List State → ℕ → Type 0
 BuildsLevels o fs levels old new e = (a : List State) → Agrees a new (length old) (length new) → AreOpen o a fs levels e
 
+-- the most states of the branches of all levels
 abbrev pub levels_weight : Options → List Branches → ℕ
 levels_weight o [] = 0
 levels_weight o (bs ∷ more) = branches_weight o bs + levels_weight o more
@@ -109,18 +113,21 @@ pub record Stands (o : Options) (old new : NfaValue) (fs : List Frame) (levels :
 
 -- ---- a token that is no brace or comma
 
+-- the most states of such a token; for others it is 0, and does not matter
 abbrev pub flat_weight : Options → Flat → ℕ
 flat_weight o (simple t) = token_weight o t
 flat_weight o opening = 0
 flat_weight o comma = 0
 flat_weight o closing = 0
 
+-- the states that were added are those of such a token, and lead from s to e
 abbrev pub BuildsFlat : Options → Flat → List State → List State → ℕ → ℕ → Type 0
 BuildsFlat o (simple t) old new s e = BuildsToken o t old new s e
 BuildsFlat o opening old new s e = ⊥
 BuildsFlat o comma old new s e = ⊥
 BuildsFlat o closing old new s e = ⊥
 
+-- such a token is not blank; of others this says nothing
 abbrev pub IsNotBlank : Flat → Type 0
 IsNotBlank (simple t) = is_blank_token t ≡ false
 IsNotBlank opening = Unit {0}

@@ -17,9 +17,11 @@ use Rattle.bit_sets.specs.declared.byte_set.ByteSet.{ByteSet}
 abbrev pub IsSetOf : (ℕ → Bool) → ByteSet → Type 0
 IsSetOf test w = (c : ℕ) → c < 256 → has_byte w c ≡ test c
 
+-- the test that every byte passes
 abbrev pub is_any_byte : ℕ → Bool
 is_any_byte c = true
 
+-- the byte is `/`
 abbrev pub is_slash : ℕ → Bool
 is_slash c = c == slash
 
@@ -74,6 +76,7 @@ abbrev mutual
   IsBuilt o a s end e = s ≡ e
   IsBuilt o a s (and_then t ts) e = (u : ℕ) × IsBuiltToken o a s t u × IsBuilt o a u ts e
 
+  -- the same of one token
   pub IsBuiltToken : Options → List State → ℕ → Token → ℕ → Type 0
   IsBuiltToken o a s (Literal c) e = IsSpelled o a s (encode_utf8 c) e
   IsBuiltToken o a s Any e = (IsTrue o.whole_character × IsCharacter o a s e) ⊎ (IsFalse o.whole_character × Bytes a s (is_wild o) e)

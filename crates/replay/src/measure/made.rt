@@ -53,8 +53,10 @@ fn push_read(alloc: Global, texts: &[GlobText<'_>], globs: &mut Vec<Glob>) -> Re
 
 /// Something that is made of globs.
 pub trait Making {
+    /// What is made.
     type Made: Drop;
 
+    /// Returns what is made of these globs.
     fn make(&self, alloc: Global, globs: &[Glob]) -> Result<Self::Made>;
 }
 

@@ -13,6 +13,7 @@ pub struct Limits {
 }
 
 impl Limits {
+    /// Returns the limits that the two texts name. It is an error if one is no number.
     pub fn parse(rounds: &str, micros: &str) -> Result<Limits> {
         let (Ok(rounds), Ok(micros)) = (rounds.parse::<usize>(), micros.parse::<u64>()) else {
             return Err(anyhow!("ROUNDS and MICROSECONDS have to be numbers"));
@@ -42,6 +43,7 @@ pub struct Measured<'a> {
 }
 
 impl<'a> Measured<'a> {
+    /// Returns a measurement within these limits, without a piece so far.
     pub fn new(rt: &'a HostRuntime, limits: Limits) -> Measured<'a> {
         Measured {
             rt,

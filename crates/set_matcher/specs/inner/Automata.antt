@@ -129,6 +129,7 @@ pub record TokenLists : Type 0 where
   pub by_component : List IndexedTokens
   pub by_slot : ℕ → List IndexedTokens
 
+-- the automata are for these tokens
 pub record AreForLists (a : AutomataParts) (t : TokenLists) : Type 0 where
   pub path : IsFor a.by_path t.by_path
   pub component : IsFor a.by_component t.by_component

@@ -14,6 +14,7 @@ pub record SetMatcherParts : Type 0 where
   pub keys : KeyParts
   pub automata : AutomataParts
 
+-- these two as a value
 abbrev pub set_matcher_parts : KeyParts → AutomataParts → SetMatcherParts
 set_matcher_parts keys automata = record { keys = keys; automata = automata }
 

@@ -15,6 +15,7 @@ pub record TokenGlob : Type 0 where
   pub options : Options
   pub tokens : Tokens
 
+-- these two as a value
 abbrev pub token_glob : Options → Tokens → TokenGlob
 token_glob o ts = record { options = o; tokens = ts }
 
