@@ -17,7 +17,6 @@ use crate::builder::Builder;
 use crate::nfa::{Nfa, StateRef};
 use std::alloc::{AllocError, Global};
 use std::collections::HashMap;
-use std::hash::{FoldHasher, Hash, Hasher};
 
 /// Returns an automaton that leads where `automaton` does and begins in one state, and in which texts that begin alike share
 /// states.
@@ -95,11 +94,11 @@ impl Sharing {
         list: Vec<usize>,
         builder: &mut Builder,
     ) -> Result<bool, AllocError>
-        requires sharing { IsSharing automaton.now builder.old self.old.known.entries.items }
+        requires sharing { IsSharing automaton.now builder.old self.old.known }
         requires states { size builder.old ≤ size automaton.now }
         ensures sharing { IfOk result
             (λ goes_on. IsTrue goes_on
-            → IsSharing automaton.now builder.new self.new.known.entries.items) }
+            → IsSharing automaton.now builder.new self.new.known) }
         ensures states { IfOk result
             (λ goes_on. IsTrue goes_on → size builder.new ≤ size automaton.now) }
         ensures left { IfOk result (λ goes_on. IsTrue goes_on → self.new.left + 1 ≤ self.old.left) }
@@ -186,9 +185,9 @@ fn push_list(
     known: &KnownLists,
     builder: &mut Builder,
 ) -> Result<Option<usize>, AllocError>
-    requires { IsSharing automaton.now builder.old known.now.entries.items }
+    requires { IsSharing automaton.now builder.old known.now }
     ensures sharing { IfOk result
-        (λ made. IfSome made (λ u. IsSharing automaton.now builder.new known.now.entries.items)) }
+        (λ made. IfSome made (λ u. IsSharing automaton.now builder.new known.now)) }
     ensures state { IfOk result
         (λ made. IfSome made (λ u. IsStateFor automaton.now builder.new states.now u)) }
 {
@@ -218,10 +217,10 @@ fn push_chunk(
     known: &KnownLists,
     builder: &mut Builder,
 ) -> Result<Option<usize>, AllocError>
-    requires { IsSharing automaton.now builder.old known.now.entries.items }
+    requires { IsSharing automaton.now builder.old known.now }
     ensures { IfOk result
         (λ made. IfSome made
-        (λ u. IsPushedFor builder.old builder.new known.now.entries.items
+        (λ u. IsPushedFor builder.old builder.new known.now
         (state automaton.now.states chunk.now.first) chunk.now.nexts.items u)) }
 {
     match automaton.state(chunk.first) {
@@ -304,93 +303,56 @@ fn expanded(
     Ok(Some(states))
 }
 
-/// A list and its state.
-#[derive(Drop)]
-struct Known {
-    list: Vec<usize>,
-    state: usize,
-}
-
 /// The lists that a state was made for.
 #[derive(Drop)]
 pub struct KnownLists {
-    entries: Vec<Known>,
-    /// For each state, 1 and the place of the entry whose list is this state alone. It is 0 if there is none. Most lists are so.
-    singles: Vec<usize>,
-    /// The place of an entry by the hash of its list, if that is longer.
-    places: HashMap<u64, usize>,
+    /// For each state, the state that was made for the list of it alone. Most lists are so.
+    singles: Vec<Option<usize>>,
+    /// The states that were made for other lists.
+    others: HashMap<Vec<usize>, usize>,
 }
 
 impl KnownLists {
     /// Returns an empty index of lists of states below a count.
+    #[tactic(auto, unfolding(crate::specs::inner::Known::IsKnown))]
     pub fn new(alloc: Global, state_count: usize) -> Result<KnownLists, AllocError>
-        ensures { IfOk result (λ known. known.entries.items ≡ []) }
+        ensures { IfOk result (λ known. (l : List ℕ) (u : ℕ) → IsKnown known l u → ⊥) }
     {
         let mut singles = Vec::new(alloc);
-        singles.resize(state_count, 0)?;
+        singles.resize(state_count, None)?;
         Ok(KnownLists {
-            entries: Vec::new(alloc),
             singles,
-            places: HashMap::new(alloc),
+            others: HashMap::new(alloc),
         })
     }
 
-    /// Returns the state of a list, if it is found. It may not be found if another list has its hash.
+    /// Returns the state that was made for a list, if there is any.
+    #[tactic(auto, unfolding(crate::specs::inner::Known::IsKnown))]
     pub fn state_of(&self, list: &[usize]) -> Option<usize>
-        ensures { IfSome result (λ state. IsKnown self.now.entries.items list.now state) }
-    {
-        let place = self.place_of(list)?;
-        let known = self.entries.get(place)?;
-        if known.list.as_slice() == list {
-            Some(known.state)
-        } else {
-            None
-        }
-    }
-
-    /// Returns the place of the entry of a list, if there is any; or, of a longer list, the entry of a list with the same hash.
-    fn place_of(&self, list: &[usize]) -> Option<usize> {
-        match list {
-            [state] => self.singles.get(*state)?.checked_sub(1),
-            _ => self.places.get(&hash_of(list)).copied(),
-        }
-    }
-
-    /// Keeps the place of the entry of a list.
-    fn keep_place(&mut self, list: &[usize], place: usize) -> Result<(), AllocError>
-        ensures { self.new.entries.items ≡ self.old.entries.items }
+        ensures { IfSome result (λ state. IsKnown self.now list.now state) }
     {
         match list {
-            [state] => {
-                if let Some(single) = self.singles.get_mut(*state) {
-                    *single = place.saturating_add(1);
-                }
-            }
-            _ => {
-                self.places.insert(hash_of(list), place)?;
-            }
+            [only] => *self.singles.get(*only)?,
+            _ => self.others.get(list).copied(),
         }
-        Ok(())
     }
 
     /// Adds a list and its state.
+    #[tactic(auto, unfolding(crate::specs::inner::Known::IsKnown))]
     pub fn add(&mut self, list: Vec<usize>, state: usize) -> Result<(), AllocError>
         ensures { OnOk result
-            ((l : List ℕ) (u : ℕ) → IsKnown self.new.entries.items l u
-            → IsKnown self.old.entries.items l u ⊎ ((list.items ≡ l) × (state ≡ u))) }
+            ((l : List ℕ) (u : ℕ) → IsKnown self.new l u
+            → IsKnown self.old l u ⊎ ((list.items ≡ l) × (state ≡ u))) }
     {
-        let place = self.entries.len();
-        self.keep_place(&list, place)?;
-        self.entries.push(Known { list, state })?;
+        if let [only] = list.as_slice() {
+            if let Some(single) = self.singles.get_mut(*only) {
+                *single = Some(state);
+            }
+        } else {
+            self.others.insert(list, state)?;
+        }
         Ok(())
     }
-}
-
-/// Returns the hash of a list.
-fn hash_of(list: &[usize]) -> u64 {
-    let mut hasher = FoldHasher::default();
-    list.hash(&mut hasher);
-    hasher.finish()
 }
 
 /// States that follow each other in a list, and are alike except for their successors.

@@ -9,7 +9,7 @@ use Rattle.bit_sets.specs.declared.byte_set.ByteSet.{ByteSet}
 use Rattle.byte_nfa.specs.Building.{Agrees, Pushes}
 use Rattle.byte_nfa.specs.Runs.{size}
 use Rattle.byte_nfa.specs.Steps.{State, bytes_state, union_state, loop_state, match_state, state, NfaValue, HasNumber, Accepts, ends, by_byte, by_skip, by_out, by_stay}
-use Rattle.byte_nfa.specs.declared.sharing.Known.{Known}
+use Rattle.byte_nfa.specs.declared.sharing.KnownLists.{KnownLists}
 use Rattle.byte_nfa.specs.inner.Chunks.{with_next, IsChunk, IsPushedFor}
 use Rattle.byte_nfa.specs.inner.Known.{IsSharing}
 use Rattle.byte_nfa.specs.inner.Lists.{AcceptsSome, AcceptsBefore, StandForFirst, IsStateFor}
@@ -111,25 +111,25 @@ between_after a l low high le y k = (
 )
 
 -- what is true when a chunk's state was pushed
-pub record AreChunked (old new : NfaValue) (entries : List Known) (l : List ℕ) (high : ℕ) (parts : List ℕ) : Type 0 where
-  pub sharing : IsSharing old new entries
+pub record AreChunked (old new : NfaValue) (lists : KnownLists) (l : List ℕ) (high : ℕ) (parts : List ℕ) : Type 0 where
+  pub sharing : IsSharing old new lists
   pub below : AreBelow (size new) parts
   pub stand : StandForFirst old new l high parts
 
-pub sharing_kept : (old new more : NfaValue) (entries : List Known) (u : ℕ) (st : State) → Pushes new more u st → IsSharing old new entries → IsSharing old more entries
-sharing_kept old new more entries u st pushes sharing = record {
+pub sharing_kept : (old new more : NfaValue) (lists : KnownLists) (u : ℕ) (st : State) → Pushes new more u st → IsSharing old new lists → IsSharing old more lists
+sharing_kept old new more lists u st pushes sharing = record {
   known = λ l v is. kept old new more l v pushes.keeps (sharing.known l v is);
   starts = pushes.starts ∙ sharing.starts;
   index_count = pushes.index_count ∙ sharing.index_count;
 }
 
-module _ (old new more : NfaValue) (entries : List Known) (l : List ℕ) (low high : ℕ) (parts nexts : List ℕ) (u : ℕ) (some : low < high) where
+module _ (old new more : NfaValue) (lists : KnownLists) (l : List ℕ) (low high : ℕ) (parts nexts : List ℕ) (u : ℕ) (some : low < high) where
   -- a state that stands for the chunk beside the parts that stand for what is before it
   with_part : (st : State) → Pushes new more u st
       → ((a : List State) → Agrees a more.states 0 (size more) → (y : List ℕ) (k : ℕ) → Accepts a k u y ↔ AcceptsBetween old.states l low high y k)
-      → AreChunked old new entries l low parts → AreChunked old more entries l high (parts ++ u ∷ [])
+      → AreChunked old new lists l low parts → AreChunked old more lists l high (parts ++ u ∷ [])
   with_part st pushes part before = record {
-    sharing = sharing_kept old new more entries u st pushes before.sharing;
+    sharing = sharing_kept old new more lists u st pushes before.sharing;
     below = below_push (size new) (size more) u parts before.below (omega (arith, pushes.len)) (omega (arith, pushes.len, pushes.at));
     stand = λ a agrees y k.
         let whole = accepts_append a y k parts (u ∷ []) in
@@ -142,8 +142,8 @@ module _ (old new more : NfaValue) (entries : List Known) (l : List ℕ) (low hi
         );
   }
 
-  pub chunked : (st : State) → IsChunk old.states l low high st nexts → IsPushedFor new more entries st nexts u
-      → AreChunked old new entries l low parts → AreChunked old more entries l high (parts ++ u ∷ [])
+  pub chunked : (st : State) → IsChunk old.states l low high st nexts → IsPushedFor new more lists st nexts u
+      → AreChunked old new lists l low parts → AreChunked old more lists l high (parts ++ u ∷ [])
   chunked (bytes_state w t) chunk (n, known, pushes) before =
       with_part (bytes_state w n) pushes
       (λ a agrees y k. reads_chunk old.states a l low high nexts u n k w t chunk (pushes.adds a 0 (omega arith) agrees)
@@ -196,8 +196,8 @@ pub chunk_again : (a : List State) (l : List ℕ) (low high n : ℕ) (st : State
 chunk_again a l low high n st nexts order chunk is at = chunk_more a l low high n st nexts nexts order chunk is at (λ m h. h) (λ m h. inl h)
 
 -- all chunks were, and there is one
-pub whole_one : (old new : NfaValue) (entries : List Known) (l parts : List ℕ) (n u : ℕ) → n ≡ length l → parts ≡ u ∷ [] → AreChunked old new entries l n parts → IsStateFor old new l u
-whole_one old new entries l parts n u len are chunked = record {
+pub whole_one : (old new : NfaValue) (lists : KnownLists) (l parts : List ℕ) (n u : ℕ) → n ≡ length l → parts ≡ u ∷ [] → AreChunked old new lists l n parts → IsStateFor old new l u
+whole_one old new lists l parts n u len are chunked = record {
   below = (subst (AreBelow (size new)) are chunked.below) 0 (omega arith);
   stands = λ a agrees y k.
       let one = accepts_one a y k u in
@@ -207,8 +207,8 @@ whole_one old new entries l parts n u len are chunked = record {
 }
 
 -- there are several, and a union of them was pushed
-pub whole_union : (old new more : NfaValue) (entries : List Known) (l parts : List ℕ) (n u : ℕ) → n ≡ length l → AreChunked old new entries l n parts → Pushes new more u (union_state parts) → IsStateFor old more l u
-whole_union old new more entries l parts n u len chunked pushes = record {
+pub whole_union : (old new more : NfaValue) (lists : KnownLists) (l parts : List ℕ) (n u : ℕ) → n ≡ length l → AreChunked old new lists l n parts → Pushes new more u (union_state parts) → IsStateFor old more l u
+whole_union old new more lists l parts n u len chunked pushes = record {
   below = omega (arith, pushes.len, pushes.at);
   stands = λ a agrees y k.
       let union = union_accepts a y k u parts (pushes.adds a 0 (omega arith) agrees) in

@@ -1,33 +1,36 @@
 -- Lists that a state was made for.
-use Rattle.std.proofs.Common.{◌≡◌, ℕ, zero, suc, ◌⊎◌, inl, inr, List, [], ◌∷◌, ◌++◌, ap, subst}
-use Rattle.std.specs.Prelude.{Some, None, slice_get}
+use Rattle.std.proofs.Common.{◌≡◌, ℕ, ◌⊎◌, inl, inr, List, sym, subst, ◌∙◌, nat_eq}
+use Rattle.std.specs.Prelude.{Some}
+use Rattle.std.specs.Cmp.Lexicographic.{pointwise, bytes_decides, nat_list_eq_equiv as lists_are}
+use Rattle.std.specs.HashMap.{UpdatesBy}
+use Rattle.std.specs.Map.{KeepsOthers}
+use Rattle.std.proofs.lemmas.Bool.{cases_Bool}
 use Rattle.std.proofs.Math.Logic.{⊎_elim}
 use Rattle.byte_nfa.specs.Steps.{NfaValue}
-use Rattle.byte_nfa.specs.declared.sharing.Known.{Known}
+use Rattle.byte_nfa.specs.declared.sharing.KnownLists.{KnownLists}
 use Rattle.byte_nfa.specs.inner.Known.{IsKnown, IsSharing}
 use Rattle.byte_nfa.specs.inner.Lists.{AcceptAlike, IsStateFor}
 use Rattle.byte_nfa.proofs.lemmas.Lists.{state_of_alike}
 
-pub known_push : (xs : List Known) (x : Known) (l : List ℕ) (u : ℕ) → IsKnown (xs ++ x ∷ []) l u → IsKnown xs l u ⊎ ((x.list.items ≡ l) × (x.state ≡ u))
-known_push [] x l u (inl h) = inr h
-known_push [] x l u (inr none) = absurd none
-known_push (y ∷ ys) x l u (inl h) = inl (inl h)
-known_push (y ∷ ys) x l u (inr h) = elim (known_push ys x l u h) [
-  | inl before ↦ inl (inr before)
-  | inr this ↦ inr this
+-- a list was put among the others
+pub known_put : (lists more : KnownLists) (list : List ℕ) (state : ℕ) → more.singles ≡ lists.singles
+    → UpdatesBy (λ x y. pointwise nat_eq x.items y.items) (λ k. pointwise nat_eq list k.items) lists.others more.others (Some state)
+    → (l : List ℕ) (u : ℕ) → IsKnown more l u → IsKnown lists l u ⊎ ((list ≡ l) × (state ≡ u))
+unfolding IsKnown KeepsOthers
+known_put lists more list state singles puts l u (inl (s, is, at)) = inl (inl (s, is, rw singles at at))
+known_put lists more list state singles puts l u (inr found) = elim (cases_Bool (pointwise nat_eq list l)) [
+  | inl same ↦ let this : list ≡ l = (bytes_decides list l).0 same in
+      inr (this, let at : Some state ≡ Some u = sym puts.1 ∙ rw (← this) at found in cc)
+  | inr apart ↦ let kept = puts.3 (λ k. pointwise nat_eq l k.items) (λ x y. lists_are.congr l x.items y.items)
+      (λ k same. lists_are.symm l k.items ∙ sym (lists_are.congr list k.items l same) ∙ apart) in
+      inl (inr (sym kept ∙ found))
 ]
 
--- an entry that was found in the list
-pub known_at : (xs : List Known) (i : ℕ) (x : Known) → slice_get xs i ≡ Some x → IsKnown xs x.list.items x.state
-known_at [] i x e = absurd (let no : None ≡ Some x = e in cc)
-known_at (y ∷ ys) zero x e = let eq : Some y ≡ Some x = e in let same : y ≡ x = cc in inl (ap (λ (z : Known). z.list.items) same, ap (λ (z : Known). z.state) same)
-known_at (y ∷ ys) (suc i) x e = inr (known_at ys i x e)
-
 -- a state was made for one list more
-pub sharing_more : (old new : NfaValue) (xs ys : List Known) (list in_order : List ℕ) (state : ℕ) → IsSharing old new xs → AcceptAlike old list in_order
+pub sharing_more : (old new : NfaValue) (lists more : KnownLists) (list in_order : List ℕ) (state : ℕ) → IsSharing old new lists → AcceptAlike old list in_order
     → IsStateFor old new in_order state
-    → ((l : List ℕ) (u : ℕ) → IsKnown ys l u → IsKnown xs l u ⊎ ((list ≡ l) × (state ≡ u))) → IsSharing old new ys
-sharing_more old new xs ys list in_order state sharing alike made adds = record {
+    → ((l : List ℕ) (u : ℕ) → IsKnown more l u → IsKnown lists l u ⊎ ((list ≡ l) × (state ≡ u))) → IsSharing old new more
+sharing_more old new lists more list in_order state sharing alike made adds = record {
   known = λ l u is. ⊎_elim {C = IsStateFor old new l u} (λ before. sharing.known l u before) (λ (same, number). subst (IsStateFor old new l) number (subst (λ x. IsStateFor old new x state) same this)) (adds l u is);
   starts = sharing.starts;
   index_count = sharing.index_count;

@@ -2,7 +2,7 @@
 use Rattle.std.specs.Prelude.{◌≡◌, ℕ, ◌<◌, ◌≤◌, List, [], ◌∷◌, slice_index}
 use Rattle.byte_nfa.specs.Building.{Pushes}
 use Rattle.byte_nfa.specs.Steps.{State, bytes_state, union_state, loop_state, match_state, state, NfaValue, HasNumber}
-use Rattle.byte_nfa.specs.declared.sharing.Known.{Known}
+use Rattle.byte_nfa.specs.declared.sharing.KnownLists.{KnownLists}
 use Rattle.byte_nfa.specs.inner.Known.{IsKnown}
 
 -- the state, with the number n for the state that it goes on to
@@ -19,8 +19,8 @@ pub record IsChunk (a : List State) (l : List ℕ) (low high : ℕ) (st : State)
   pub comes : (n : ℕ) → HasNumber n nexts → (i : ℕ) × (low ≤ i) × (i < high) × (state a (slice_index l i) ≡ with_next st n)
 
 -- the state u was pushed, which is st but goes on to the state of the list nexts; an end goes on to none, and st is no union
-abbrev pub IsPushedFor : NfaValue → NfaValue → List Known → State → List ℕ → ℕ → Type 0
-IsPushedFor old new entries (bytes_state w t) nexts u = (n : ℕ) × IsKnown entries nexts n × Pushes old new u (bytes_state w n)
-IsPushedFor old new entries (union_state us) nexts u = ⊥
-IsPushedFor old new entries (loop_state w us) nexts u = (n : ℕ) × IsKnown entries nexts n × Pushes old new u (loop_state w (n ∷ []))
-IsPushedFor old new entries (match_state k) nexts u = Pushes old new u (match_state k)
+abbrev pub IsPushedFor : NfaValue → NfaValue → KnownLists → State → List ℕ → ℕ → Type 0
+IsPushedFor old new lists (bytes_state w t) nexts u = (n : ℕ) × IsKnown lists nexts n × Pushes old new u (bytes_state w n)
+IsPushedFor old new lists (union_state us) nexts u = ⊥
+IsPushedFor old new lists (loop_state w us) nexts u = (n : ℕ) × IsKnown lists nexts n × Pushes old new u (loop_state w (n ∷ []))
+IsPushedFor old new lists (match_state k) nexts u = Pushes old new u (match_state k)

@@ -16,12 +16,14 @@ set_at sets n = slice_index_or sets n no_bytes
 abbrev pub exits_at : List ℕ → ℕ → List ℕ
 exits_at targets at = slice_range targets (at + 1) (at + 1 + slice_index targets at)
 
+-- the state that is stored so, with its set of bytes and the states that it leads to looked up
 abbrev pub of_state : List ByteSet → List ℕ → declared.State → State
 of_state sets targets (Bytes n t) = bytes_state (set_at sets n) t
 of_state sets targets (Union at) = union_state (exits_at targets at)
 of_state sets targets (Loop n t) = loop_state (set_at sets n) (t ∷ [])
 of_state sets targets (Match k) = match_state k
 
+-- the states that are stored so, in the same order
 abbrev pub of_states : List ByteSet → List ℕ → List declared.State → List State
 of_states sets targets states = map (of_state sets targets) states
 
@@ -32,6 +34,7 @@ IsHeld sets targets (Union at) = at + slice_index targets at < length targets
 IsHeld sets targets (Loop n t) = n < length sets
 IsHeld sets targets (Match k) = Unit {0}
 
+-- the same of each of the states
 abbrev pub AreHeld : List ByteSet → List ℕ → List declared.State → Type 0
 AreHeld sets targets [] = Unit {0}
 AreHeld sets targets (x ∷ xs) = IsHeld sets targets x × AreHeld sets targets xs

@@ -5,7 +5,7 @@ use Rattle.byte_nfa.proofs.sharing.push_list.Given as goal
 abbrev pub invariant-loop-at : goal.invariant-loop-at
 invariant-loop-at l = record {
   within : l.at ≤ length l.states;
-  chunked : AreChunked l.automaton l.builder l.known.entries.items l.states l.at l.parts.items;
+  chunked : AreChunked l.automaton l.builder l.known l.states l.at l.parts.items;
 }
 
 abbrev pub decreases-loop-at : goal.decreases-loop-at

@@ -5,7 +5,7 @@ use Rattle.byte_nfa.proofs.sharing.start_state.Given as goal
 
 abbrev pub invariant-loop-list : goal.invariant-loop-list
 invariant-loop-list l = record {
-  sharing : IsSharing l.automaton l.builder l.sharing.known.entries.items;
+  sharing : IsSharing l.automaton l.builder l.sharing.known;
   states : size l.builder ≤ size l.automaton;
 }
 

@@ -1,8 +1,6 @@
-use Rattle.byte_nfa.specs.declared.sharing.Known.{Known}
-use Rattle.byte_nfa.proofs.lemmas.Known.{known_push}
+use Rattle.std.proofs.Common.{refl}
+use Rattle.byte_nfa.proofs.lemmas.Known.{known_put}
 use Rattle.byte_nfa.proofs.sharing.KnownLists.add.Goals as goal
 
-pub returns : goal.returns
-returns c = λ l u is.
-    let entry : Known = record { list = c.args.list; state = c.args.state } in
-    known_push c.args.self.now.entries.items entry l u (rw c.in_ok-keep_place.ensures at (rw c.in_ok-push.ensures.items at is))
+pub returns-in_ok-insert : goal.returns-in_ok-insert
+returns-in_ok-insert c = known_put c.args.self.now (record { singles = c.args.self.now.singles; others = c.insert.new.self }) c.args.list.items c.args.state refl c.in_ok-insert.ensures.updates
