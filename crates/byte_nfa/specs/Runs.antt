@@ -19,10 +19,6 @@ max_reads m = size m + 3 * length m.starts
 abbrev pub AcceptsFrom : NfaValue → StateSet → List ℕ → ℕ → Type 0
 AcceptsFrom m set y k = (t : ℕ) × (t < size m) × IsTrue (has_state set t) × Accepts m.states k t y
 
--- some state of the automaton is in the set
-abbrev pub HasSome : NfaValue → StateSet → Type 0
-HasSome m set = (t : ℕ) × (t < size m) × IsTrue (has_state set t)
-
 -- the set has exactly the states that lead to some end without a byte
 abbrev pub AreAccepting : NfaValue → StateSet → Type 0
 AreAccepting m set = (s : ℕ) → s < size m → IsTrue (has_state set s) ↔ ((k : ℕ) × Accepts m.states k s [])
