@@ -15,7 +15,6 @@ use rules::Rules;
 use std::alloc::{AllocError, Global};
 use std::process::ExitCode;
 
-/// The command `check`: its name and its help.
 pub const COMMAND: Command = Command {
     name: "check",
     help: "usage: examples check [--overlaps|--ignore] FILE
@@ -30,6 +29,9 @@ states.
 The exit status is 0 if nothing was written, 1 if a line was, and 2 after an error. For each pattern of owners that is
 wrong, the line is written to standard error with a mark under the place.",
 };
+
+/// The paths that rules are asked about.
+const DOMAIN: Domain = Domain::RelativePaths;
 
 /// The most rows of a search.
 const LIMIT: usize = 10_000;
@@ -71,24 +73,15 @@ fn check(rt: &HostRuntime, name: &str, overlaps: bool) -> Result<ExitCode, Fault
 fn check_ignore_file(rt: &HostRuntime, name: &str) -> Result<ExitCode, Fault> {
     let file = TextFile::read(rt, name)?;
     let mut findings = Findings::new(rt.alloc(), &file);
-    push_unused_rules(rt.alloc(), &mut findings, &file)?;
+    let RulePatterns { patterns, lines } = rule_patterns(rt.alloc(), &file.bytes)?;
+    let found = unreachable_rules(rt.alloc(), &patterns, false, DOMAIN, LIMIT)?;
+    findings.push_unused(rt.alloc(), &lines_at(rt.alloc(), &file, &lines)?, &found)?;
     let rules = git_ignore::Rules::new(rt.alloc(), &file.bytes)?;
     for line in &lines_at(rt.alloc(), &file, rules.unread_lines())? {
         let reason = "git cannot read this line";
         findings.push(rt.alloc(), *line, "never decides: ", reason)?;
     }
     findings.write(rt)
-}
-
-/// Adds the rules of an ignore file that never decide.
-fn push_unused_rules(
-    alloc: Global,
-    findings: &mut Findings<'_>,
-    file: &TextFile,
-) -> Result<(), AllocError> {
-    let RulePatterns { patterns, lines } = rule_patterns(alloc, &file.bytes)?;
-    let found = unreachable_rules(alloc, &patterns, false, Domain::RelativePaths, LIMIT)?;
-    findings.push_unused(alloc, &lines_at(alloc, file, &lines)?, &found)
 }
 
 /// Returns the lines of an ignore file that have these numbers, in ascending order, each without a carriage return at its end.

@@ -11,7 +11,6 @@ use globset::{Candidate, Glob};
 use std::alloc::{AllocError, Global};
 use std::process::ExitCode;
 
-/// The command `file_types`: its name and its help.
 pub const COMMAND: Command = Command {
     name: "file_types",
     help: "usage: examples file_types FILE < PATHS

@@ -10,7 +10,6 @@ use arguments::Arguments;
 use std::process::ExitCode;
 use walk::Walk;
 
-/// The command `find_files`: its name and its help.
 pub const COMMAND: Command = Command {
     name: "find_files",
     help: "usage: examples find_files [OPTION..] FOLDER GLOB..
@@ -35,15 +34,13 @@ A folder that cannot be read, and a name that is not UTF-8, are left out, with a
 The exit status is 0 if a path was printed, 1 if none was, and 2 after an error.",
 };
 
-const VERSION: &str = "find_files 0.4.21";
-
 /// Executes the arguments, and returns the exit status. With `--help` it prints the help and does nothing else.
 pub fn run(rt: &HostRuntime, arguments: &[String]) -> Result<ExitCode, Fault> {
     let arguments = Arguments::read(rt.alloc(), arguments)?;
     if arguments.flags.help {
         Err(Fault::Help)
     } else if arguments.flags.version {
-        print_text(rt, VERSION)
+        print_text(rt, "find_files 0.4.21")
     } else {
         Walk::new(rt, &arguments)?.run(rt)
     }

@@ -9,7 +9,6 @@ use crate::text_file::{Lines, TextFile};
 use std::process::ExitCode;
 use walk::Walk;
 
-/// The command `ignore_lines`: its name and its help.
 pub const COMMAND: Command = Command {
     name: "ignore_lines",
     help: "usage: examples ignore_lines [-i] FILE < PATHS

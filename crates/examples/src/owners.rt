@@ -9,7 +9,6 @@ use globset::Candidate;
 use std::alloc::Global;
 use std::process::ExitCode;
 
-/// The command `owners`: its name and its help.
 pub const COMMAND: Command = Command {
     name: "owners",
     help: "usage: examples owners FILE < PATHS

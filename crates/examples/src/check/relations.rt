@@ -1,85 +1,53 @@
 //! Relations of rules: which never decide, and which match a path in common.
 
-use super::LIMIT;
 use super::rules::Rules;
+use super::{DOMAIN, LIMIT};
 use glob_relations::{
-    Coverage, Decides, Domain, Intersection, Reachability, RuleReachability, covering, overlap,
-    unreachable,
+    Coverage, Decides, Intersection, Reachability, RuleReachability, covering, overlap, unreachable,
 };
-use globset::{Candidate, Error, Glob, GlobSet, Searcher};
+use globset::{Error, Glob};
 use std::alloc::Global;
 
-/// Rules are about relative paths.
-const DOMAIN: Domain = Domain::RelativePaths;
-
 /// Returns for each rule whether it ever decides: a path about which it does, or the indexes of the rules that match each path
-/// that it matches. None of these can be left out. If one rule does alone, it is the only one.
+/// that it matches. None of these can be left out.
 pub fn uses(alloc: Global, rules: &Rules<'_>) -> Result<Vec<RuleReachability>, Error> {
     let told = unreachable(alloc, &rules.globs, Decides::Last, DOMAIN, LIMIT)?;
-    let mut searcher = Searcher::new(alloc, &GlobSet::new(alloc, &rules.globs)?)?;
     let mut uses = Vec::new(alloc);
     for rule in 0..rules.lines.len() {
-        let of_globs = told.get(rules.range(rule)).unwrap_or(&[]);
-        uses.push(use_of(alloc, rules, rule, of_globs, &mut searcher)?)?;
+        uses.push(use_of(alloc, rules, rule, &told)?)?;
     }
     Ok(uses)
 }
 
-/// Returns whether a rule ever decides, by what is told of its globs. The last glob that matches a path is one of the rule that
+/// Returns whether a rule ever decides, by what is told of each glob. The last glob that matches a path is one of the rule that
 /// decides, so a rule decides where one of its globs does. It is not known if that is not known of a glob, and none decides.
 fn use_of(
     alloc: Global,
     rules: &Rules<'_>,
     rule: usize,
-    of_globs: &[Reachability],
-    searcher: &mut Searcher,
+    told: &[Reachability],
 ) -> Result<RuleReachability, Error> {
-    let mut covering_rules = Vec::new(alloc);
+    let mut globs = Vec::new(alloc);
     let mut is_known = true;
-    for of_glob in of_globs {
+    for of_glob in told.get(rules.range(rule)).unwrap_or(&[]) {
         match of_glob {
             Reachability::Decides(path) => {
                 let path = path.to_vec(alloc)?;
                 return Ok(RuleReachability::Decides(path));
             }
-            Reachability::Never(by) => rules.push_rules_after(rule, by, &mut covering_rules)?,
+            Reachability::Never(by) => globs.extend_from_slice(by)?,
             Reachability::Unknown => is_known = false,
         }
     }
     if !is_known {
         return Ok(RuleReachability::Unknown);
     }
-    if let Some(one) = only_cover(alloc, rules, rule, searcher)? {
-        covering_rules = Vec::from_array(alloc, [one])?;
-    }
-    Ok(RuleReachability::Never(least(alloc, rules, rule, covering_rules)?))
+    let by = rules.rules_after(alloc, rule, &globs)?;
+    Ok(RuleReachability::Never(least(alloc, rules, rule, by)?))
 }
 
-/// Returns the first later rule that covers a rule alone, if there is any. It matches whatever path of the rule is tried.
-fn only_cover(
-    alloc: Global,
-    rules: &Rules<'_>,
-    rule: usize,
-    searcher: &mut Searcher,
-) -> Result<Option<usize>, Error> {
-    for glob in rules.globs_of(rule) {
-        if let Coverage::Not(path) = covering(alloc, glob, &[], DOMAIN, LIMIT)? {
-            let mut later = Vec::new(alloc);
-            let found = searcher.matches(&Candidate::from_bytes(&path));
-            rules.push_rules_after(rule, found, &mut later)?;
-            for other in &later {
-                if covers(alloc, rules, rule, rules.globs_of(*other))? {
-                    return Ok(Some(*other));
-                }
-            }
-            return Ok(None);
-        }
-    }
-    Ok(None)
-}
-
-/// Returns which of the later rules at `by`, which cover a rule, are needed for that. A search that reaches the limit leaves its
-/// rule among them.
+/// Returns those of the rules `by`, which cover a rule together, that are needed. A search that reaches the limit leaves its rule
+/// among them.
 fn least(
     alloc: Global,
     rules: &Rules<'_>,

@@ -71,21 +71,18 @@ impl<'t> Rules<'t> {
         self.globs.get(self.range(rule)).unwrap_or(&[])
     }
 
-    /// Adds the rules after a rule that globs at these indexes are of, except those that are there.
-    pub fn push_rules_after(
+    /// Returns the rules after a rule that globs at these indexes are of, each once.
+    pub fn rules_after(
         &self,
+        alloc: Global,
         rule: usize,
         globs: &[usize],
-        into: &mut Vec<usize>,
-    ) -> Result<(), AllocError> {
-        for glob in globs {
-            if let Some(other) = self.rule_of.get(*glob) {
-                if *other > rule && !into.contains(other) {
-                    into.push(*other)?;
-                }
-            }
-        }
-        Ok(())
+    ) -> Result<Vec<usize>, AllocError> {
+        let of = globs.iter().filter_map(|it| self.rule_of.get(*it).copied());
+        let mut rules: Vec<usize> = of.filter(|other| *other > rule).collect(alloc)?;
+        rules.sort_unstable();
+        rules.dedup();
+        Ok(rules)
     }
 
     /// Returns copies of the globs of chosen rules, without the rule at a place among these.
