@@ -19,7 +19,6 @@ mod matchers;
 mod object;
 mod options;
 mod owned;
-mod paths;
 mod plain;
 mod read_glob;
 mod relations;

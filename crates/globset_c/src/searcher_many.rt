@@ -9,8 +9,7 @@ ghost use Rattle.globset_c.specs.Capacity.{IsWritten, IsTooLong};
 
 use crate::object::Object;
 use crate::owned::Owned;
-use crate::paths::are_ends;
-use crate::slices;
+use crate::slices::{self, are_ends};
 use crate::status::{BAD_ENDS, DONE, OUT_OF_MEMORY, Status, TOO_SMALL, WRONG_KIND};
 use globset::{Candidate, Searcher};
 use std::alloc::{AllocError, Global};

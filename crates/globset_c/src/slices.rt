@@ -1,7 +1,8 @@
-//! Slices for C: those that objects lend, and those that are written into a caller's room.
+//! Slices for C: those that objects lend, those that are written into a caller's room, and the ends of many paths.
 
-ghost use Rattle.std.specs.Prelude.{◌≡◌, ◌≢◌, [], ◌∷◌};
+ghost use Rattle.std.specs.Prelude.{◌≡◌, ◌≢◌, ◌↔◌, [], ◌∷◌, IsTrue};
 ghost use Rattle.globset_c.specs.Capacity.{IsWritten, IsTooLong};
+ghost use Rattle.globset_c.specs.Paths.{AreEnds};
 ghost use Rattle.globset_c.specs.Statuses.{IsOneOf};
 
 use crate::status::{DONE, Status, TOO_SMALL};
@@ -33,4 +34,21 @@ pub fn write<T: Copy>(items: &[T], room: &mut [T], needed: &mut usize) -> Status
     }
     room[..len].copy_from_slice(items);
     DONE
+}
+
+/// Returns whether these are ends of paths in `len` bytes.
+#[tactic(auto, using(crate::proofs::Ends::ends_join, crate::proofs::Ends::ends_part, crate::proofs::Ends::no_ends_left))]
+pub fn are_ends(len: usize, ends: &[usize]) -> bool
+    ensures { IsTrue result ↔ AreEnds len 0 ends.now }
+{
+    let mut start = 0;
+    let mut rest = ends;
+    'each: while let Some((end, tail)) = rest.split_first() {
+        if start > *end || *end > len {
+            return false;
+        }
+        start = *end;
+        rest = tail;
+    }
+    true
 }

@@ -1,6 +1,6 @@
 use Rattle.std.proofs.Common.{length}
 use Rattle.globset_c.specs.Paths.{AreEnds}
-use Rattle.globset_c.proofs.paths.are_ends.Given as goal
+use Rattle.globset_c.proofs.slices.are_ends.Given as goal
 
 -- The ends are in order if those that are left are, and only then.
 abbrev pub invariant-each : goal.invariant-each
