@@ -122,7 +122,7 @@ impl Cache {
         ensures counted { visits.old ≤ visits.new }
     {
         let automaton = self.dfa.automaton();
-        let Some(place) = self.rows.known_start(automaton) else {
+        let Some(place) = self.rows.begin else {
             return false;
         };
         self.rows

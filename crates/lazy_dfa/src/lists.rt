@@ -120,20 +120,6 @@ pub fn put_states(states: &[u32], into: &mut StateSet)
     }
 }
 
-/// Puts the numbers of the list at a place into a set, next to its contents.
-pub fn put_listed(numbers: &[u32], place: usize, into: &mut IndexSet)
-    requires { IsList numbers.now (index_capacity into.old) place }
-    ensures room { index_capacity into.new ≡ index_capacity into.old }
-    ensures has { (k : ℕ)
-        → has_index into.new k
-        ≡ (has_number k (list_at numbers.now place) || has_index into.old k) }
-{
-    let count = numbers[place] as usize;
-    for index in &numbers[place + 1..place + 1 + count] {
-        into.put(*index as usize);
-    }
-}
-
 /// Puts what the ends of the indexes in the list at a place tell into a set, next to its contents, except ends of an index
 /// below `lowest`. There are twice `half` indexes.
 pub fn tell_listed(numbers: &[u32], place: usize, half: usize, lowest: usize, into: &mut IndexSet)

@@ -9,15 +9,15 @@ ghost use Rattle.byte_nfa.specs.Live.{AreLive};
 ghost use Rattle.byte_nfa.specs.Steps.{IsReached};
 ghost use Rattle.byte_nfa.specs.Runs.{size, AcceptsFrom};
 ghost use Rattle.lazy_dfa.specs.inner.Sources.{half, FitsU32};
-ghost use Rattle.lazy_dfa.specs.inner.Rows.{AcceptsIn, AcceptsRow, HasEnds, HasMarks, GoesTo, IsDeadBy, IsNext, IsEnd, IsEntry, IsFirst, IsSound, AreListed, KeepsRows, HasSpace, states_of, place_of, max_entries, marked, BeginsAt, IsAt, IsStep};
+ghost use Rattle.lazy_dfa.specs.inner.Rows.{AcceptsIn, AcceptsRow, HasEnds, IsEntry, IsRowOf, IsSound, LeadsTo, MarksAre, AreListed, KeepsRows, HasSpace, states_of, max_entries, marked, BeginsAt, IsAt, IsStep};
 
 mod known;
 mod stepped;
 
 use crate::classes::ByteClasses;
 use crate::lists::{
-    copy_within, extend_within, list_indexes, list_of, push_within, put_listed, put_states,
-    states_at, zeros_within,
+    copy_within, extend_within, list_indexes, list_of, push_within, put_states, states_at,
+    zeros_within,
 };
 use crate::pass::read;
 use bit_sets::{IndexSet, StateSet, Visits};
@@ -71,10 +71,11 @@ struct Room {
     listed: usize,
 }
 
-/// The row of some states, by its number.
+/// The row of some states.
 #[derive(Clone, Copy)]
 struct Found {
-    row: usize,
+    /// The place where its entries begin.
+    place: usize,
     /// Whether the rows before are still there.
     is_kept: bool,
 }
@@ -100,7 +101,7 @@ pub struct Rows {
     /// have other places then.
     pub seed: usize,
     /// The place of the row that a run begins in, if it is made.
-    begin: Option<usize>,
+    pub begin: Option<usize>,
     /// The states that a run begins in.
     first: Vec<u32>,
     /// The states that a pass takes.
@@ -123,7 +124,13 @@ impl Rows {
     {
         let states = automaton.state_count();
         let indexes = automaton.index_count();
-        let first = first_of(alloc, automaton)?;
+        let mut from = StateSet::new(alloc, states)?;
+        automaton.start(&mut from);
+        let mut list = Vec::with_capacity(alloc, states)?;
+        list_of(&from, states, &mut list, &mut Visits::new());
+        // The copy has no more room than it needs.
+        let mut first = Vec::with_capacity(alloc, list.len())?;
+        copy_within(&mut first, &list);
         let classes = ByteClasses::new(automaton);
         let width = classes.count + 1;
         let taken = states.saturating_add(indexes).saturating_add(first.len());
@@ -140,10 +147,10 @@ impl Rows {
             seed: 0,
             begin: None,
             first,
-            from: StateSet::new(alloc, states)?,
+            from,
             next: StateSet::new(alloc, states)?,
             ends: IndexSet::new(alloc, indexes)?,
-            list: Vec::with_capacity(alloc, states)?,
+            list,
             told: Vec::with_capacity(alloc, indexes)?,
         })
     }
@@ -174,44 +181,8 @@ impl Rows {
         }
         copy_within(&mut self.list, &self.first);
         let found = self.seek(automaton, visits);
-        let place = self.place_of_row(found.row);
-        self.begin = Some(place);
-        place
-    }
-
-    /// Returns where a byte leads from the row at a place. If the row has marks, `ends` afterwards has the indexes of the ends
-    /// that the row leads to without a byte.
-    ///
-    /// A known entry is a visit. For an unknown entry each state of the row is read at most once, which is a visit, and the next
-    /// row is looked up, which is another.
-    #[inline(always)]
-    pub fn step(&mut self, automaton: &Nfa, place: usize, byte: u8, visits: &mut Visits) -> Step
-        // The rows are right for the automaton, which has a state, and there is a row at the place.
-        requires sound { IsSound automaton.now self.old }
-        requires row { (i : ℕ) × IsAt self.old i place }
-        requires some { 0 < size automaton.now }
-
-        // The rows stay right, and the step says where the byte leads and whether the row has marks. The visits are bounded.
-        ensures sound { IsSound automaton.now self.new }
-        ensures step { (i : ℕ) → IsAt self.old i place
-            → IsStep automaton.now self.old i byte result self.new }
-        ensures visits { visits.new ≤ visits.old + (size automaton.now + 1) }
-        ensures counted { visits.old ≤ visits.new }
-    {
-        let entry = entry_at(&self.entries, place, self.class_of[byte as usize] as usize);
-        if entry == UNKNOWN {
-            let row = self.row_at(place);
-            return self.leave(automaton, row, byte, visits);
-        }
-        if entry >= MARKED {
-            let row = self.row_at(place);
-            return self.step_marked(automaton, row, byte, entry - MARKED, visits);
-        }
-        visits.tick();
-        Step {
-            next: next_of(entry),
-            has_marks: false,
-        }
+        self.begin = Some(found.place);
+        found.place
     }
 
     /// Returns the number of the row at a place.
@@ -220,55 +191,6 @@ impl Rows {
         ensures { (i : ℕ) → place ≡ i * (self.now.class_count + 1) → result ≡ i }
     {
         place / (self.class_count + 1)
-    }
-
-    /// Returns the place where the entries of a row begin.
-    fn place_of_row(&self, row: usize) -> usize
-        requires row { row < length self.now.starts.items }
-        requires len { length self.now.entries.items
-            ≡ length self.now.starts.items * (self.now.class_count + 1) }
-        ensures { result ≡ row * (self.now.class_count + 1) }
-    {
-        row * (self.class_count + 1)
-    }
-
-    /// Returns where a byte leads from a row that has marks, by its entry without these.
-    #[inline(never)]
-    fn step_marked(
-        &mut self,
-        automaton: &Nfa,
-        row: usize,
-        byte: u8,
-        entry: u32,
-        visits: &mut Visits,
-    ) -> Step
-        // The rows are right for the automaton, which has a state, and the row is one of them.
-        requires sound { IsSound automaton.now self.old }
-        requires row { row < length self.old.starts.items }
-        requires some { 0 < size automaton.now }
-
-        // The row has marks, and the entry is known and says where the byte leads.
-        requires marks { HasMarks automaton.now self.old row }
-        requires next { IsNext automaton.now self.old row byte entry }
-        requires known { 0 < entry }
-
-        // The rows stay right, and the step says where the byte leads and whether the row has marks. The visits are bounded.
-        ensures sound { IsSound automaton.now self.new }
-        ensures step { IsStep automaton.now self.old row byte result self.new }
-        ensures visits { visits.new ≤ visits.old + (size automaton.now + 1) }
-        ensures counted { visits.old ≤ visits.new }
-    {
-        let end = self.entry(row, self.class_count);
-        if end < FIRST {
-            // There was no room for the list of what the row leads to without a byte.
-            return self.leave(automaton, row, byte, visits);
-        }
-        visits.tick();
-        self.load_ends(automaton, row, end);
-        Step {
-            next: next_of(entry),
-            has_marks: true,
-        }
     }
 
     /// Returns whether some bytes lead from the row at a place to an end. `live` has all states from which some bytes lead to an
@@ -302,14 +224,14 @@ impl Rows {
         false
     }
 
-    /// Returns whether the row at a place leads to some end without a byte. If it does, `ends` has afterwards the indexes of these.
+    /// Returns whether the row at a place leads to some end without a byte. If it does, `ends` has afterwards the indexes of these. It
+    /// writes that entry: a run calls it where [`Rows::known_end`] does not know.
     ///
-    /// If it is known to which ends it leads, that is one visit. Otherwise each state is read at most once, and is one visit.
+    /// Each state of the row is read at most once, which is a visit.
     pub fn finish(&mut self, automaton: &Nfa, place: usize, visits: &mut Visits) -> bool
-        // The rows are right for the automaton, which has a state, and there is a row at the place.
+        // The rows are right for the automaton, and there is a row at the place.
         requires sound { IsSound automaton.now self.old }
         requires row { (i : ℕ) × IsAt self.old i place }
-        requires some { 0 < size automaton.now }
 
         // The rows stay right, and the result says whether the row has ends without a byte. If it has any, `ends` has these.
         ensures sound { IsSound automaton.now self.new }
@@ -324,17 +246,6 @@ impl Rows {
         ensures counted { visits.old ≤ visits.new }
     {
         let row = self.row_at(place);
-        let column = self.class_count;
-        let end = self.entry(row, column);
-        if end == DEAD {
-            visits.tick();
-            return false;
-        }
-        if end >= FIRST {
-            visits.tick();
-            self.load_ends(automaton, row, end);
-            return true;
-        }
         // What any byte leads to has no effect here.
         self.read_row(automaton, row, 0, visits);
         let half = automaton.index_count() / 2;
@@ -342,27 +253,57 @@ impl Rows {
             self.keep_ends(automaton, row);
             return true;
         }
+        let column = self.class_count;
         self.write(automaton, row, column, DEAD);
         false
     }
 
-    /// Returns where a byte leads from a row whose entry for it is not known. It writes the entry, unless all rows are forgotten.
-    #[cold]
-    #[inline(never)]
-    fn leave(&mut self, automaton: &Nfa, row: usize, byte: u8, visits: &mut Visits) -> Step
-        // The rows are right for the automaton, and the row is one of them.
+    /// Returns where a byte leads from the row at a place, by its entry if that is known, which is a visit. Otherwise it has the
+    /// cost of [`Rows::leave`].
+    pub fn step(&mut self, automaton: &Nfa, place: usize, byte: u8, visits: &mut Visits) -> Step
+        // The rows are right for the automaton, and there is a row at the place.
         requires sound { IsSound automaton.now self.old }
-        requires row { row < length self.old.starts.items }
+        requires row { (i : ℕ) × IsAt self.old i place }
 
         // The rows stay right, and the step says where the byte leads and whether the row has marks. The visits are bounded.
         ensures sound { IsSound automaton.now self.new }
-        ensures step { IsStep automaton.now self.old row byte result self.new }
+        ensures step { (i : ℕ) → IsAt self.old i place
+            → IsStep automaton.now self.old i byte result self.new }
         ensures visits { visits.new ≤ visits.old + (size automaton.now + 1) }
         ensures counted { visits.old ≤ visits.new }
     {
+        if let Some(step) = self.known_step(automaton, place, byte, visits) {
+            return step;
+        }
+        self.leave(automaton, place, byte, visits)
+    }
+
+    /// Returns where a byte leads from the row at a place. Afterwards `ends` has the indexes of the ends that the row leads to without
+    /// a byte. It writes the entry, unless all rows are forgotten: a run calls it where the entry is not known.
+    ///
+    /// Each state of the row is read at most once, which is a visit, and the next row is looked up, which is another.
+    #[cold]
+    #[inline(never)]
+    pub fn leave(&mut self, automaton: &Nfa, place: usize, byte: u8, visits: &mut Visits) -> Step
+        // The rows are right for the automaton, and there is a row at the place.
+        requires sound { IsSound automaton.now self.old }
+        requires row { (i : ℕ) × IsAt self.old i place }
+
+        // The rows stay right, the step says where the byte leads and whether the row has marks, and `ends` has the row's ends.
+        ensures sound { IsSound automaton.now self.new }
+        ensures step { (i : ℕ) → IsAt self.old i place
+            → IsStep automaton.now self.old i byte result self.new }
+        ensures ends { (i : ℕ) → IsAt self.old i place
+            → HasEnds automaton.now self.old i self.new.ends }
+
+        // The visits are bounded, and do not become fewer.
+        ensures visits { visits.new ≤ visits.old + (size automaton.now + 1) }
+        ensures counted { visits.old ≤ visits.new }
+    {
+        let row = self.row_at(place);
         self.read_row(automaton, row, byte, visits);
-        let has_marks = self.keep_marks(automaton, row);
-        let marks = added_by(has_marks);
+        let marks = self.keep_marks(automaton, row);
+        let has_marks = marks > 0;
         let class = self.class_of[byte as usize] as usize;
         if self.list.is_empty() {
             self.write(automaton, row, class, DEAD + marks);
@@ -372,19 +313,19 @@ impl Rows {
             };
         }
         let found = self.seek(automaton, visits);
-        let place = self.place_of_row(found.row);
         // If the rows were forgotten, the row that was left is another one now, or none.
         if found.is_kept {
-            self.write(automaton, row, class, place as u32 + FIRST + marks);
+            self.write(automaton, row, class, found.place as u32 + FIRST + marks);
         }
         Step {
-            next: Some(place),
+            next: Some(found.place),
             has_marks,
         }
     }
 
-    /// Returns whether a row has marks, by the indexes in `ends`. If it has, their list is kept.
-    fn keep_marks(&mut self, automaton: &Nfa, row: usize) -> bool
+    /// Returns what is added to the entries of a row, which is not 0 if the row has marks by the indexes in `ends`. If it has, their
+    /// list is kept.
+    fn keep_marks(&mut self, automaton: &Nfa, row: usize) -> u32
         // The rows are right for the automaton, the row is one of them, and `ends` has its ends without a byte.
         requires sound { IsSound automaton.now self.old }
         requires row { row < length self.old.starts.items }
@@ -393,17 +334,16 @@ impl Rows {
         // The rows stay right, none is forgotten, the result says whether the row has marks, and `ends` and `list` do not change.
         ensures sound { IsSound automaton.now self.new }
         ensures kept { KeepsRows self.old self.new }
-        ensures marks { IsTrue result ↔ HasMarks automaton.now self.old row }
+        ensures marks { MarksAre automaton.now self.old row result }
         ensures ends { self.new.ends ≡ self.old.ends }
         ensures list { self.new.list ≡ self.old.list }
     {
         let half = automaton.index_count() / 2;
-        let has_marks = self.ends.next_below(half, half + half).is_some();
-        if !has_marks {
-            return false;
+        if self.ends.next_below(half, half + half).is_some() {
+            self.keep_ends(automaton, row);
+            return MARKED;
         }
-        self.keep_ends(automaton, row);
-        true
+        0
     }
 
     /// Keeps the list of the indexes in `ends`, to which a row leads without a byte, if there is room for it.
@@ -430,25 +370,6 @@ impl Rows {
         push_within(&mut self.lists, self.told.len());
         extend_within(&mut self.lists, &self.told);
         self.entries[row * (self.class_count + 1) + self.class_count] = place as u32 + FIRST;
-    }
-
-    /// Makes `ends` the indexes of the list that is kept for a row.
-    fn load_ends(&mut self, automaton: &Nfa, row: usize, end: u32)
-        // The rows are right for the automaton, the row is one of them, and `end` says where its ends without a byte are listed.
-        requires sound { IsSound automaton.now self.old }
-        requires row { row < length self.old.starts.items }
-        requires known { 1 < end }
-        requires end { IsEnd automaton.now self.old row end }
-
-        // The rows stay right, none is forgotten, and `ends` has the row's ends without a byte.
-        ensures sound { IsSound automaton.now self.new }
-        ensures ends { HasEnds automaton.now self.old row self.new.ends }
-        ensures kept { KeepsRows self.old self.new }
-    {
-        let _automaton = automaton;
-        let _row = row;
-        self.ends.clear();
-        put_listed(&self.lists, (end - FIRST) as usize, &mut self.ends);
     }
 
     /// Makes `list` what a row leads to by a byte, and `ends` what it leads to without one. It is at most one visit for each state.
@@ -484,17 +405,6 @@ impl Rows {
         );
     }
 
-    /// Returns an entry of a row.
-    fn entry(&self, row: usize, column: usize) -> u32
-        requires row { row < length self.now.starts.items }
-        requires column { column ≤ self.now.class_count }
-        requires len { length self.now.entries.items
-            ≡ length self.now.starts.items * (self.now.class_count + 1) }
-        ensures { result ≡ slice_index self.now.entries.items (place_of self.now row column) }
-    {
-        self.entries[row * (self.class_count + 1) + column]
-    }
-
     /// Writes an entry of a row.
     fn write(&mut self, automaton: &Nfa, row: usize, column: usize, entry: u32)
         // The rows are right for the automaton, the row and the column are there, and the entry is right for them.
@@ -520,12 +430,10 @@ impl Rows {
         requires below { AreBelow (size automaton.now) self.old.list.items }
         requires few { length self.old.list.items ≤ size automaton.now }
 
-        // The rows stay right, and the result is one of them, which leads to the ends that the states in the list lead to.
+        // The rows stay right, and the row at the place leads to the ends that the states in the list lead to.
         ensures sound { IsSound automaton.now self.new }
-        ensures row { result.row < length self.new.starts.items }
-        ensures states { (y : List ℕ) (k : ℕ)
-            → AcceptsIn automaton.now self.old.list.items y k
-            ↔ AcceptsRow automaton.now self.new result.row y k }
+        ensures row { IsRowOf automaton.now (AcceptsIn automaton.now self.old.list.items) self.new
+            result.place }
 
         // No row is forgotten if the result says so, `ends` does not change, and the look-up is one visit.
         ensures kept { IsTrue result.is_kept → KeepsRows self.old self.new }
@@ -535,14 +443,20 @@ impl Rows {
         visits.tick();
         let mut hash = hash_of(self.seed, &self.list);
         if let Some(row) = self.known(hash) {
-            return Found { row, is_kept: true };
+            return Found {
+                place: row * (self.class_count + 1),
+                is_kept: true,
+            };
         }
         let is_kept = self.make_room(automaton);
         if !is_kept {
             hash = hash_of(self.seed, &self.list);
         }
         let row = self.add(automaton, hash);
-        Found { row, is_kept }
+        Found {
+            place: row * (self.class_count + 1),
+            is_kept,
+        }
     }
 
     /// Returns the row of the states in `list`, if it is found. Another row can be of the same states: nothing hangs on that.
@@ -642,22 +556,6 @@ fn room_within(bytes: usize, width: usize, states: usize, taken: usize) -> Room
     }
 }
 
-/// Returns the states that a run begins in. Returns an error if memory runs out.
-fn first_of(alloc: Global, automaton: &Nfa) -> Result<Vec<u32>, AllocError>
-    requires { FitsU32 automaton.now }
-    ensures { IfOk result (λ list. IsFirst automaton.now list.items) }
-{
-    let states = automaton.state_count();
-    let mut set = StateSet::new(alloc, states)?;
-    automaton.start(&mut set);
-    let mut list = Vec::with_capacity(alloc, states)?;
-    list_of(&set, states, &mut list, &mut Visits::new());
-    // The copy has no more room than it needs.
-    let mut first = Vec::with_capacity(alloc, list.len())?;
-    extend_within(&mut first, &list);
-    Ok(first)
-}
-
 /// Makes the table of rows twice as large, as far as there is room for that, and puts each row in again, if every other place of it
 /// may be taken.
 fn widen_if_full(table: &mut Vec<u32>, seed: usize, starts: &[u32], lists: &[u32])
@@ -696,13 +594,6 @@ fn remember(table: &mut [u32], hash: u64, row: usize)
     }
 }
 
-/// Returns what is added to the entries of a row that has marks, or has none.
-fn added_by(has_marks: bool) -> u32
-    ensures { (IsTrue has_marks × (result ≡ marked)) ⊎ (IsFalse has_marks × (result ≡ 0)) }
-{
-    if has_marks { MARKED } else { 0 }
-}
-
 /// Returns the entry of a class in the row at a place.
 #[inline(always)]
 fn entry_at(entries: &[u32], place: usize, class: usize) -> u32
@@ -714,16 +605,23 @@ fn entry_at(entries: &[u32], place: usize, class: usize) -> u32
     column[place]
 }
 
-/// Returns the place of the row that an entry without marks leads to.
+/// Returns where an entry that is known leads.
 #[inline(always)]
-fn next_of(entry: u32) -> Option<usize>
-    requires { 0 < entry }
-    ensures { MatchOption result (entry ≡ 1) (λ j. (1 < entry) × (j ≡ entry - 2)) }
+fn step_of(entry: u32) -> Step
+    requires known { 0 < entry }
+    requires row { entry ≡ marked → ⊥ }
+    ensures plain { entry < marked → IsFalse result.has_marks × LeadsTo entry result.next }
+    ensures marks { marked ≤ entry → IsTrue result.has_marks × LeadsTo (entry - marked) result.next }
 {
-    if entry == DEAD {
-        None
-    } else {
-        Some((entry - FIRST) as usize)
+    let has_marks = entry >= MARKED;
+    let entry = if has_marks { entry - MARKED } else { entry };
+    Step {
+        next: if entry == DEAD {
+            None
+        } else {
+            Some((entry - FIRST) as usize)
+        },
+        has_marks,
     }
 }
 

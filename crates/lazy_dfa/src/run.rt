@@ -87,8 +87,8 @@ impl Rows {
                 }
                 return;
             }
-            let step = self.step(automaton, left.place, rest[left.at], visits);
-            self.tell(step.has_marks, half, found);
+            let step = self.leave(automaton, left.place, rest[left.at], visits);
+            tell_ends(&self.ends, half, half, found);
             let Some(next) = step.next else {
                 return;
             };
@@ -148,22 +148,21 @@ impl Rows {
                 let slot = self.slot_of(place);
                 let mark = place as u32 + 1;
                 let is_told = told[slot] == mark;
-                if let Some(next) = self.marked_next(
-                    automaton, place, *byte, is_told, found, visits,
-                ) {
-                    if !is_told {
-                        count = found_count(indexes, count, found);
-                        if count >= indexes.len() {
-                            return None;
-                        }
-                        told[slot] = mark;
-                    }
-                    place = next;
-                } else if self.is_known_dead(automaton, place, *byte, found, visits) {
-                    return None;
-                } else {
+                let Some(step) = self.told_step(automaton, place, *byte, is_told, found, visits)
+                else {
                     return Some(Left { at, place });
+                };
+                let Some(next) = step.next else {
+                    return None;
+                };
+                if !is_told {
+                    count = found_count(indexes, count, found);
+                    if count >= indexes.len() {
+                        return None;
+                    }
+                    told[slot] = mark;
                 }
+                place = next;
             }
             at += 1;
         }
@@ -195,7 +194,10 @@ impl Rows {
         match self.read(automaton, text, visits) {
             Reached::Decided => true,
             Reached::Nothing => false,
-            Reached::Row(place) => self.finish(automaton, place, visits),
+            Reached::Row(place) => match self.known_end(automaton, place, visits) {
+                Some(has_end) => has_end,
+                None => self.finish(automaton, place, visits),
+            },
         }
     }
 
@@ -334,7 +336,7 @@ impl Rows {
             let Some((byte, after)) = rest[left.at..].split_first() else {
                 return Reached::Row(left.place);
             };
-            let step = self.step(automaton, left.place, *byte, visits);
+            let step = self.leave(automaton, left.place, *byte, visits);
             if step.has_marks {
                 return Reached::Decided;
             }
@@ -358,7 +360,9 @@ impl Rows {
         ensures visits { visits.new ≤ visits.old + length text.now }
         ensures counted { visits.old ≤ visits.new }
     {
-        let place = self.known_start(automaton)?;
+        let Some(place) = self.begin else {
+            return None;
+        };
         match self.read_from(automaton, place, text, visits) {
             Ok(reached) => Some(reached),
             Err(left) => {
@@ -409,21 +413,5 @@ impl Rows {
             at += 1;
         }
         Err(Left { at, place })
-    }
-
-    /// Puts what the ends of a row that was left say is decided into a set, if the row has marks.
-    #[inline(always)]
-    fn tell(&self, has_marks: bool, half: usize, found: &mut IndexSet)
-        requires fits { half + half < 2 ^ 64 }
-        requires room { half ≤ index_capacity found.old }
-        ensures room { index_capacity found.new ≡ index_capacity found.old }
-        ensures has { (k : ℕ)
-            → IsTrue (has_index found.new k)
-            ↔ (((k < half) × IsTrue has_marks × IsTrue (has_index self.now.ends (half + k)))
-            ⊎ IsTrue (has_index found.old k)) }
-    {
-        if has_marks {
-            tell_ends(&self.ends, half, half, found);
-        }
     }
 }

@@ -6,7 +6,7 @@ use Rattle.std.proofs.lemmas.Nat.{mul-le}
 use Rattle.std.proofs.Math.Logic.{⊎_elim}
 use Rattle.byte_nfa.proofs.lemmas.Pass.{iff_trans}
 use Rattle.lazy_dfa.proofs.lemmas.Lists.{iff_sym}
-use Rattle.lazy_dfa.proofs.lemmas.Told.{told_same, told_either}
+use Rattle.lazy_dfa.proofs.lemmas.Told.{told_decided, told_same, told_either}
 use Rattle.byte_nfa.specs.Steps.{NfaValue, IsReached}
 use Rattle.byte_nfa.specs.EarlyMatches.{EndsAtEarlyMatches}
 use Rattle.byte_nfa.proofs.lemmas.Deciding.{reached_by}
@@ -91,22 +91,22 @@ module _ (n : ℕ) (P : List ℕ → ℕ → Type 0) where
       back (inl h) = ⊎_elim {C = FindsBy n Q y k ⊎ IsTrue now} (λ f. inl f) (λ m. inr (told.1 (inl m))) ((at_byte Q b goes y k).0 h)
       back (inr w) = inr (told.1 (inr w))
 
-  -- what marks tell
-  module _ (marks : Bool) (ends : ℕ → Bool) (marked : IsTrue marks ↔ ((j : ℕ) × (j < n) × P [] (n + j))) (ended : IsTrue marks → (k : ℕ) → k < n + n → IsTrue (ends k) ↔ P [] k) where
-    told_is : (k : ℕ) → ((k < n) × IsTrue marks × IsTrue (ends (n + k))) ↔ ((k < n) × P [] (n + k))
-    told_is k = (
-      λ (lt, on, at). (lt, (ended on (n + k) (omega arith)).0 at),
-      λ (lt, a). let on : IsTrue marks = marked.1 (k, lt, a) in (lt, on, (ended on (n + k) (omega arith)).1 a),
+  -- what the ends of a row tell when it is left
+  module _ (ends : ℕ → Bool) (ended : (k : ℕ) → k < n + n → IsTrue (ends k) ↔ P [] k) where
+    told_is : (k : ℕ) → ToldBy n (λ i. IsTrue (ends i)) n k ↔ ((k < n) × P [] (n + k))
+    told_is k = iff_trans (told_decided n (λ i. IsTrue (ends i)) k) (
+      λ (lt, at). (lt, (ended (n + k) (omega (arith, lt))).0 at),
+      λ (lt, a). (lt, (ended (n + k) (omega (arith, lt))).1 a),
     )
 
-    -- after a byte, with what the marks told
+    -- after a byte
     pub next_found : (Q : List ℕ → ℕ → Type 0) (b : ℕ) → ((y : List ℕ) (k : ℕ) → P (b ∷ y) k ↔ Q y k) → (y : List ℕ) (k : ℕ) (was now : Bool) (R : Type 0)
-        → IsTrue now ↔ (((k < n) × IsTrue marks × IsTrue (ends (n + k))) ⊎ IsTrue was) → (FindsBy n P (b ∷ y) k ⊎ IsTrue was) ↔ R → (FindsBy n Q y k ⊎ IsTrue now) ↔ R
+        → IsTrue now ↔ (ToldBy n (λ i. IsTrue (ends i)) n k ⊎ IsTrue was) → (FindsBy n P (b ∷ y) k ⊎ IsTrue was) ↔ R → (FindsBy n Q y k ⊎ IsTrue now) ↔ R
     next_found Q b goes y k was now R told before = told_found Q b goes y k was now R (iff_trans told (iff_beside (told_is k))) before
 
     -- after a byte by which nothing is found
     pub dead_found : (b : ℕ) → ((y : List ℕ) (k : ℕ) → P (b ∷ y) k → ⊥) → (y : List ℕ) (k : ℕ) (was now : Bool) (R : Type 0)
-        → IsTrue now ↔ (((k < n) × IsTrue marks × IsTrue (ends (n + k))) ⊎ IsTrue was) → (FindsBy n P (b ∷ y) k ⊎ IsTrue was) ↔ R → IsTrue now ↔ R
+        → IsTrue now ↔ (ToldBy n (λ i. IsTrue (ends i)) n k ⊎ IsTrue was) → (FindsBy n P (b ∷ y) k ⊎ IsTrue was) ↔ R → IsTrue now ↔ R
     dead_found b dead y k was now R told before = iff_trans (iff_trans told (iff_beside (iff_trans (told_is k) (iff_sym (at_dead b dead y k))))) before
 
   -- at the end of the text, by the indexes of ends
@@ -138,13 +138,6 @@ found_is old m made y bytes k =
     let two = made.index_count in
     let is : old.index_count ≡ half m = omega arith in
     subst (λ n. FindsBy n (IsReached m) y k ↔ IsReached old y k) is (iff_sym (reached_by old m made k y bytes))
-
--- how many visits there are after a byte more, and at the end
-pub visits_more : (first old new i size : ℕ) → old ≤ first + i * size → new ≤ old + size → new ≤ first + (i + 1) * size
-visits_more first old new i size le more = omega arith
-
-pub visits_within : (first old new i n size : ℕ) → i ≤ n → old ≤ first + i * size → new ≤ old + size → new ≤ first + (n + 1) * size
-visits_within first old new i n size le before more = let h = mul-le i size n size le (omega arith) in omega (arith, h)
 
 -- what is left after a run came to a byte, where each byte more costs at most so much
 pub visits_left : (m at w old mid new total : ℕ) → 0 < w → mid ≤ old + at → new ≤ mid + w → old + (m + at + 1) * w ≤ total → new + m * w ≤ total

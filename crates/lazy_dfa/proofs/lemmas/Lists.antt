@@ -7,7 +7,7 @@ use Rattle.std.proofs.Math.Logic.{⊎_elim}
 use Rattle.std.proofs.Math.Seq.{get_or-append_seam}
 use Rattle.bit_sets.specs.Numbers.{has_number}
 use Rattle.byte_nfa.proofs.lemmas.Pass.{or_first, or_second}
-use Rattle.lazy_dfa.specs.inner.Lists.{list_at, IsList, IsListOf, KeepsLists}
+use Rattle.lazy_dfa.specs.inner.Lists.{list_at, IsListOf, KeepsLists}
 
 pub iff_sym : {P Q : Type 0} → (P ↔ Q) → Q ↔ P
 iff_sym f = (f.1, f.0)
@@ -134,9 +134,6 @@ put_more k x i xs before now new lt is h put =
 -- the range of a list
 pub list_range : (numbers : List ℕ) (place : ℕ) → take (place + 1 + slice_index numbers place - (place + 1)) (drop (place + 1) numbers) ≡ list_at numbers place
 list_range numbers place = ap (λ c. take c (drop (place + 1) numbers)) (let e : place + 1 + slice_index numbers place - (place + 1) ≡ slice_index numbers place = omega arith in e)
-
-pub list_wider : (numbers : List ℕ) (n n' place : ℕ) → n ≤ n' → IsList numbers n place → IsList numbers n' place
-list_wider numbers n n' place le is = record { room = is.room; below = λ x lt. let h = is.below x lt in omega arith }
 
 -- a list stays one where its fact is put in other words
 pub list_of_iff : (numbers : List ℕ) (n place : ℕ) (P Q : ℕ → Type 0) → ((k : ℕ) → P k ↔ Q k) → IsListOf numbers n place P → IsListOf numbers n place Q

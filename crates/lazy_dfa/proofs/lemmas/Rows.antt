@@ -1,5 +1,5 @@
 -- Rows that are added, written and found again.
-use Rattle.std.proofs.Common.{◌≡◌, ◌≢◌, ℕ, ◌+◌, ◌-◌, ◌*◌, ◌<◌, ◌≤◌, ◌⊎◌, ◌||◌, inl, inr, Bool, true, false, true≢false, List, [], ◌∷◌, ◌++◌, Some, None, length, take, drop, replicate, slice_index, slice_set, IsTrue, refl, ap, sym, ◌∙◌, subst, arith, length-append}
+use Rattle.std.proofs.Common.{◌≡◌, ◌≢◌, ℕ, ◌+◌, ◌-◌, ◌*◌, ◌<◌, ◌≤◌, ◌⊎◌, ◌||◌, inl, inr, Bool, true, false, true≢false, ltb, List, [], ◌∷◌, ◌++◌, Some, None, length, take, drop, replicate, slice_index, slice_set, IsTrue, refl, ap, sym, ◌∙◌, subst, arith, length-append}
 use Rattle.std.specs.Prelude.{◌↔◌, IsFalse, Option, MatchOption, is_some}
 use Rattle.std.proofs.lemmas.Bool.{cases_lt, or_cases}
 use Rattle.std.proofs.lemmas.Nat.{mul-le}
@@ -23,7 +23,8 @@ use Rattle.bit_sets.specs.declared.index_set.IndexSet.{IndexSet}
 use Rattle.lazy_dfa.proofs.lemmas.Lists as Lists
 use Rattle.lazy_dfa.proofs.lemmas.Lists.{keeps_lists, list_last}
 use Rattle.lazy_dfa.specs.declared.rows.Rows.{Rows}
-use Rattle.lazy_dfa.specs.inner.Rows.{AcceptsIn, AcceptsRow, IsNext, IsEnd, IsEntry, IsEntryBy, IsSound, HasEnds, HasMarks, GoesTo, IsDeadBy, HasRoomFor, marked, KeepsRows, states_of, place_of, max_entries, IsAt, BeginsAt}
+use Rattle.lazy_dfa.specs.declared.rows.Step.{Step}
+use Rattle.lazy_dfa.specs.inner.Rows.{AcceptsIn, AcceptsRow, IsNext, IsEnd, IsEntry, IsEntryBy, IsSound, HasEnds, HasMarks, GoesTo, IsDeadBy, HasRoomFor, marked, KeepsRows, states_of, place_of, max_entries, IsAt, BeginsAt, IsStep, LeadsTo, MarksAre}
 
 -- places of entries
 
@@ -379,10 +380,6 @@ next_by m rows i b c e there back is = record {
   row = λ some. let (j, at, goes) = is.row some in (j, at, λ y k. (λ a. (goes y k).0 (in_equivalent m (states_of rows i) c b y k there a), λ a. in_equivalent m (states_of rows i) b c y k back ((goes y k).1 a)));
 }
 
--- the number that is added to the entries of a row
-abbrev pub MarksAre : NfaValue → Rows → ℕ → ℕ → Type 0
-MarksAre m rows i n = (HasMarks m rows i × (n ≡ marked)) ⊎ ((HasMarks m rows i → ⊥) × (n ≡ 0))
-
 -- what an entry says of one byte, it says of each of the class
 pub entry_by : (m : NfaValue) (rows : Rows) (i b e marks : ℕ) → IsSound m rows → b < 256 → 0 < e → e < marked → MarksAre m rows i marks → IsNext m rows i b e → IsEntry m rows i (slice_index rows.class_of b) (e + marks)
 entry_by m rows i b e marks sound small some low are is = record {
@@ -420,21 +417,38 @@ pub marks_kept : (m : NfaValue) (old new : Rows) (i n : ℕ) → KeepsRows old n
 marks_kept m old new i n keeps lt (inl (has, is)) = inl (marks_still m old new i keeps lt has, is)
 marks_kept m old new i n keeps lt (inr (none, is)) = inr (λ h. none (marks_before m old new i keeps lt h), is)
 
-pub marks_are : (m : NfaValue) (rows : Rows) (i n : ℕ) (r : Bool) → IsTrue r ↔ HasMarks m rows i → (IsTrue r × (n ≡ marked)) ⊎ (IsFalse r × (n ≡ 0)) → MarksAre m rows i n
-marks_are m rows i n r has (inl (on, is)) = inl (has.0 on, is)
-marks_are m rows i n r has (inr (off, is)) = inr (λ h. true≢false (sym (has.1 h) ∙ off), is)
+-- whether something is added says whether the row has marks
+pub marks_on : (m : NfaValue) (rows : Rows) (i n : ℕ) → MarksAre m rows i n → IsTrue (ltb 0 n) ↔ HasMarks m rows i
+marks_on m rows i n (inl (has, is)) = (λ _. has, λ _. subst (λ x. IsTrue (ltb 0 x)) (sym is) refl)
+marks_on m rows i n (inr (none, is)) = (λ on. absurd (true≢false (sym (subst (λ x. IsTrue (ltb 0 x)) is on))), λ h. absurd (none h))
 
 pub ends_kept : (m : NfaValue) (old new : Rows) (i : ℕ) (ends : IndexSet) → KeepsRows old new → i < length old.starts.items → HasEnds m old i ends → HasEnds m new i ends
 ends_kept m old new i ends keeps lt has k small = iff_trans (has k small) (accepts_kept m old new i [] k (keeps.states i lt))
 
 -- an entry that is taken
-pub next_is : (m : NfaValue) (rows : Rows) (i b e : ℕ) (o : Option ℕ) → MatchOption o (e ≡ 1) (λ p. (1 < e) × (p ≡ e - 2)) → IsNext m rows i b e → MatchOption o (IsDeadBy m rows i b) (GoesTo m rows i b rows)
+pub next_is : (m : NfaValue) (rows : Rows) (i b e : ℕ) (o : Option ℕ) → LeadsTo e o → IsNext m rows i b e → MatchOption o (IsDeadBy m rows i b) (GoesTo m rows i b rows)
 next_is m rows i b e None one is = is.dead one
 next_is m rows i b e (Some p) (some, same) is = subst (GoesTo m rows i b rows) (sym same) (is.row some)
 
-pub next_later : (m : NfaValue) (old new : Rows) (i b : ℕ) (o : Option ℕ) → KeepsRows old new → MatchOption o (IsDeadBy m old i b) (GoesTo m old i b old) → MatchOption o (IsDeadBy m old i b) (GoesTo m old i b new)
-next_later m old new i b None keeps dead = dead
-next_later m old new i b (Some p) keeps (j, at, goes) = (j, at_kept old new j p keeps at, λ y k. iff_trans (goes y k) (accepts_kept m old new j y k (keeps.states j at.0)))
+-- where an entry leads
+pub known_is : (m : NfaValue) (rows : Rows) (i b e : ℕ) (step : Step) → IsEntryBy m rows i b e → (e < marked → IsFalse step.has_marks × LeadsTo e step.next)
+    → (marked ≤ e → IsTrue step.has_marks × LeadsTo (e - marked) step.next) → IsStep m rows i b step rows
+known_is m rows i b e step by plain marks = ⊎_elim {C = IsStep m rows i b step rows}
+    (λ low.
+    let (off, leads) = plain low in
+    let (quiet, next) = by.plain low in
+    record {
+      next = next_is m rows i b e step.next leads next;
+      marks = (λ on. absurd (true≢false (sym on ∙ off)), λ h. absurd (quiet h));
+    })
+    (λ high.
+    let (on, leads) = marks high in
+    let (has, some, next) = by.marks high in
+    record {
+      next = next_is m rows i b (e - marked) step.next leads next;
+      marks = (λ _. has, λ _. on);
+    })
+    (cases_lt e marked)
 
 -- the entry of a byte, and that of the end of the text
 module _ (m : NfaValue) (rows : Rows) (i : ℕ) (sound : IsSound m rows) (lt : i < length rows.starts.items) where

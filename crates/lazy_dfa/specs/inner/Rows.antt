@@ -1,5 +1,5 @@
 -- The rows of a cache.
-use Rattle.std.specs.Prelude.{◌≡◌, ℕ, ◌+◌, ◌-◌, ◌*◌, ◌<◌, ◌≤◌, ◌⊎◌, ◌↔◌, List, [], ◌∷◌, ◌++◌, Some, length, slice_index, vec_capacity, IsTrue, MatchOption}
+use Rattle.std.specs.Prelude.{◌≡◌, ℕ, ◌+◌, ◌-◌, ◌*◌, ◌<◌, ◌≤◌, ◌⊎◌, ◌↔◌, List, [], ◌∷◌, ◌++◌, Option, Some, length, slice_index, vec_capacity, IsTrue, MatchOption}
 use Rattle.bit_sets.specs.declared.index_set.IndexSet.{IndexSet}
 use Rattle.bit_sets.specs.Indexes.{has_index, index_capacity}
 use Rattle.bit_sets.specs.StateSets.{state_capacity}
@@ -36,9 +36,13 @@ HasMarks m rows i = (k : ℕ) × (k < half m) × AcceptsRow m rows i [] (half m 
 abbrev pub IsAt : Rows → ℕ → ℕ → Type 0
 IsAt rows i p = (i < length rows.starts.items) × (p ≡ i * (rows.class_count + 1))
 
+-- at the place p is a row from which each text leads to the ends that the fact says
+abbrev pub IsRowOf : NfaValue → (List ℕ → ℕ → Type 0) → Rows → ℕ → Type 0
+IsRowOf m P rows p = (j : ℕ) × IsAt rows j p × ((y : List ℕ) (k : ℕ) → P y k ↔ AcceptsRow m rows j y k)
+
 -- the byte leads from the row of number i of the old rows to the row at the place p of the new rows
 abbrev pub GoesTo : NfaValue → Rows → ℕ → ℕ → Rows → ℕ → Type 0
-GoesTo m old i b new p = (j : ℕ) × IsAt new j p × ((y : List ℕ) (k : ℕ) → AcceptsRow m old i (b ∷ y) k ↔ AcceptsRow m new j y k)
+GoesTo m old i b = IsRowOf m (λ y. AcceptsRow m old i (b ∷ y))
 
 -- the byte leads from the row to no end
 abbrev pub IsDeadBy : NfaValue → Rows → ℕ → ℕ → Type 0
@@ -57,11 +61,10 @@ abbrev pub BeginsAt : NfaValue → Rows → ℕ → Type 0
 BeginsAt m rows p = (j : ℕ) × IsAt rows j p × ((y : List ℕ) (k : ℕ) → AcceptsRow m rows j y k ↔ IsReached m y k)
 
 -- Where a byte leads from the row of number i of the old rows: to no end, or to a row of the new rows. It also says whether the
--- left row has marks, and which.
+-- left row has marks.
 pub record IsStep (m : NfaValue) (old : Rows) (i b : ℕ) (step : Step) (new : Rows) : Type 0 where
   pub next : MatchOption step.next (IsDeadBy m old i b) (GoesTo m old i b new)
   pub marks : IsTrue step.has_marks ↔ HasMarks m old i
-  pub ends : IsTrue step.has_marks → HasEnds m old i new.ends
 
 -- the row of number i has no marks, and the byte leads from it to the row at the place p
 abbrev pub IsPlainStep : NfaValue → Rows → ℕ → ℕ → ℕ → Type 0
@@ -75,16 +78,18 @@ HasTold m rows i found = (k : ℕ) → k < half m → AcceptsRow m rows i [] (ha
 abbrev pub AddsMarks : NfaValue → Rows → ℕ → IndexSet → IndexSet → Type 0
 AddsMarks m rows i old new = (k : ℕ) → IsTrue (has_index new k) ↔ (((k < half m) × AcceptsRow m rows i [] (half m + k)) ⊎ IsTrue (has_index old k))
 
--- the byte leads from the row of number i to the row at the place p, and the new set has the indexes of the row's marks, in
--- addition to the old set
-pub record IsMarkedStep (m : NfaValue) (rows : Rows) (i b : ℕ) (old new : IndexSet) (p : ℕ) : Type 0 where
-  pub next : GoesTo m rows i b rows p
+-- where a byte leads from the row of number i, and the new set has the indexes of the row's marks, in addition to the old set
+pub record IsToldStep (m : NfaValue) (rows : Rows) (i b : ℕ) (old new : IndexSet) (step : Step) : Type 0 where
+  pub known : IsStep m rows i b step rows
   pub told : AddsMarks m rows i old new
 
--- where a byte leads from the row of number i, and whether the row has marks
-pub record IsKnownStep (m : NfaValue) (rows : Rows) (i b : ℕ) (step : Step) : Type 0 where
-  pub next : MatchOption step.next (IsDeadBy m rows i b) (GoesTo m rows i b rows)
-  pub marks : IsTrue step.has_marks ↔ HasMarks m rows i
+-- the number that is added to the entries of a row
+abbrev pub MarksAre : NfaValue → Rows → ℕ → ℕ → Type 0
+MarksAre m rows i n = (HasMarks m rows i × (n ≡ marked)) ⊎ ((HasMarks m rows i → ⊥) × (n ≡ 0))
+
+-- where an entry without marks leads
+abbrev pub LeadsTo : ℕ → Option ℕ → Type 0
+LeadsTo e next = MatchOption next (e ≡ 1) (λ p. (1 < e) × (p ≡ e - 2))
 
 -- what an entry without marks says of a byte: it is 1 where nothing follows, and otherwise 2 more than the place of a row
 pub record IsNext (m : NfaValue) (rows : Rows) (i b e : ℕ) : Type 0 where

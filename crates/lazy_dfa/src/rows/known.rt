@@ -3,23 +3,14 @@
 ghost use Rattle.std.specs.Prelude.{◌≡◌, ℕ, ◌+◌, ◌*◌, ◌<◌, ◌≤◌, ◌⊎◌, ◌↔◌, [], IsTrue, IsFalse, IfSome, MatchOption, length};
 ghost use Rattle.bit_sets.specs.Indexes.{has_index, index_capacity};
 ghost use Rattle.lazy_dfa.specs.inner.Sources.{half};
-ghost use Rattle.lazy_dfa.specs.inner.Rows.{AcceptsRow, AddsFound, AddsMarks, HasTold, IsDeadBy, IsSound, BeginsAt, IsAt, IsKnownStep, IsPlainStep, IsMarkedStep, max_entries};
+ghost use Rattle.lazy_dfa.specs.inner.Rows.{AcceptsRow, AddsFound, AddsMarks, HasTold, IsSound, IsAt, IsPlainStep, IsStep, IsToldStep, max_entries};
 
-use super::{DEAD, FIRST, MARKED, REMEMBERED, Rows, Step, UNKNOWN, entry_at, next_of};
+use super::{FIRST, MARKED, REMEMBERED, Rows, Step, UNKNOWN, entry_at, step_of};
 use crate::lists::{copy_within, tell_listed};
 use bit_sets::{IndexSet, Visits};
 use byte_nfa::Nfa;
 
 impl Rows {
-    /// Returns the place of the row that a run begins in, if it is made.
-    pub fn known_start(&self, automaton: &Nfa) -> Option<usize>
-        requires { IsSound automaton.now self.now }
-        ensures { IfSome result (BeginsAt automaton.now self.now) }
-    {
-        let _automaton = automaton;
-        self.begin
-    }
-
     /// Returns the place of the row that a byte leads to from the row at a place, if that is known and the row has no marks. It
     /// is a visit.
     #[inline(always)]
@@ -58,9 +49,9 @@ impl Rows {
         (place >> (width.trailing_zeros() % 64)) % REMEMBERED
     }
 
-    /// Returns the place of the row that a byte leads to from the row at a place, if the row has marks, and these and the place
-    /// are known. It is a visit. The set then has the marks: they are put into it, unless the run has found them before.
-    pub fn marked_next(
+    /// Returns where a byte leads from the row at a place, if that is known, and the row's marks too. It is a visit. The set then has
+    /// the marks: they are put into it, unless the run has found them before.
+    pub fn told_step(
         &self,
         automaton: &Nfa,
         place: usize,
@@ -68,7 +59,7 @@ impl Rows {
         is_told: bool,
         found: &mut IndexSet,
         visits: &mut Visits,
-    ) -> Option<usize>
+    ) -> Option<Step>
         // The rows are right for the automaton, and there is a row at the place.
         requires sound { IsSound automaton.now self.now }
         requires row { (i : ℕ) × IsAt self.now i place }
@@ -80,21 +71,21 @@ impl Rows {
 
         // The set keeps its capacity. With a result it gets the row's marks, and there is one visit. Without one nothing changes.
         ensures room { index_capacity found.new ≡ index_capacity found.old }
-        ensures next { (i : ℕ) → IsAt self.now i place
+        ensures step { (i : ℕ) → IsAt self.now i place
             → MatchOption result (found.new ≡ found.old)
-            (IsMarkedStep automaton.now self.now i byte found.old found.new) }
+            (IsToldStep automaton.now self.now i byte found.old found.new) }
         ensures visits { MatchOption result (visits.new ≡ visits.old)
             (λ _. visits.new ≡ visits.old + 1) }
     {
         let entry = entry_at(&self.entries, place, self.class_of[byte as usize] as usize);
-        if entry < MARKED + FIRST {
+        if entry == UNKNOWN {
             return None;
         }
-        if !is_told && !self.tell_marks(automaton, place, found) {
+        if entry >= MARKED && !is_told && !self.tell_marks(automaton, place, found) {
             return None;
         }
         visits.tick();
-        Some((entry - MARKED - FIRST) as usize)
+        Some(step_of(entry))
     }
 
     /// Puts what the row at a place has marks of into a set, if the list of what it leads to without a byte is there. Returns whether
@@ -120,41 +111,6 @@ impl Rows {
         true
     }
 
-    /// Returns whether it is known that a byte leads to no end from the row at a place, which is a visit. The indexes of the
-    /// row's marks are put into a set then.
-    pub fn is_known_dead(
-        &self,
-        automaton: &Nfa,
-        place: usize,
-        byte: u8,
-        found: &mut IndexSet,
-        visits: &mut Visits,
-    ) -> bool
-        // The rows are right for the automaton, there is a row at the place, and the set has room for the indexes.
-        requires sound { IsSound automaton.now self.now }
-        requires row { (i : ℕ) × IsAt self.now i place }
-        requires room { half automaton.now ≤ index_capacity found.old }
-
-        // The set keeps its capacity, and gets the row's marks if the byte is known to lead to no end. Otherwise nothing changes.
-        ensures room { index_capacity found.new ≡ index_capacity found.old }
-        ensures dead { (i : ℕ) → IsAt self.now i place → IsTrue result
-            → IsDeadBy automaton.now self.now i byte
-            × AddsMarks automaton.now self.now i found.old found.new }
-        ensures none { IsFalse result → (found.new ≡ found.old) × (visits.new ≡ visits.old) }
-
-        // The visits are bounded, and do not become fewer.
-        ensures visits { visits.new ≤ visits.old + 1 }
-        ensures counted { visits.old ≤ visits.new }
-    {
-        let entry = entry_at(&self.entries, place, self.class_of[byte as usize] as usize);
-        let is_dead = entry == DEAD
-            || (entry == MARKED + DEAD && self.tell_marks(automaton, place, found));
-        if is_dead {
-            visits.tick();
-        }
-        is_dead
-    }
-
     /// Returns where a byte leads from the row at a place, if that is known, which is a visit.
     #[inline(always)]
     pub fn known_step(
@@ -167,7 +123,7 @@ impl Rows {
         requires sound { IsSound automaton.now self.now }
         requires row { (i : ℕ) × IsAt self.now i place }
         ensures step { (i : ℕ) → IsAt self.now i place
-            → IfSome result (IsKnownStep automaton.now self.now i byte) }
+            → IfSome result (λ step. IsStep automaton.now self.now i byte step self.now) }
         ensures visits { MatchOption result (visits.new ≡ visits.old)
             (λ _. visits.new ≡ visits.old + 1) }
     {
@@ -177,16 +133,7 @@ impl Rows {
             return None;
         }
         visits.tick();
-        if entry < MARKED {
-            return Some(Step {
-                next: next_of(entry),
-                has_marks: false,
-            });
-        }
-        Some(Step {
-            next: next_of(entry - MARKED),
-            has_marks: true,
-        })
+        Some(step_of(entry))
     }
 
     /// Returns whether the row at a place leads to some end without a byte, if that is known, which is a visit.
@@ -197,8 +144,8 @@ impl Rows {
             → IfSome result (λ yes. IsTrue yes
             ↔ ((k : ℕ) × (k < half automaton.now + half automaton.now)
             × AcceptsRow automaton.now self.now i [] k)) }
-        ensures visits { visits.new ≤ visits.old + 1 }
-        ensures counted { visits.old ≤ visits.new }
+        ensures visits { MatchOption result (visits.new ≡ visits.old)
+            (λ _. visits.new ≡ visits.old + 1) }
     {
         let _automaton = automaton;
         let end = entry_at(&self.entries, place, self.class_count);

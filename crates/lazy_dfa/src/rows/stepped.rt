@@ -6,7 +6,7 @@ ghost use Rattle.byte_nfa.specs.EarlyMatches.{EndsAtEarlyMatches};
 ghost use Rattle.byte_nfa.specs.Runs.{size, AcceptsFrom};
 ghost use Rattle.byte_nfa.specs.Steps.{NfaValue};
 ghost use Rattle.lazy_dfa.specs.inner.Reached.{HasRead, IsLeft, IsWhereBy};
-ghost use Rattle.lazy_dfa.specs.inner.Rows.{AcceptsRow, AddsFound, IsAt, IsSound};
+ghost use Rattle.lazy_dfa.specs.inner.Rows.{AcceptsRow, AddsFound, IsAt, IsRowOf, IsSound};
 ghost use Rattle.lazy_dfa.specs.inner.Sources.{half};
 
 use super::Rows;
@@ -172,14 +172,12 @@ impl Rows {
     fn row_of_from(&mut self, automaton: &Nfa, visits: &mut Visits) -> usize
         requires { IsSound automaton.now self.old }
         ensures sound { IsSound automaton.now self.new }
-        ensures row { (i : ℕ) × IsAt self.new i result
-            × ((y : List ℕ) (k : ℕ) → AcceptsFrom automaton.now self.old.from y k
-            ↔ AcceptsRow automaton.now self.new i y k) }
+        ensures row { IsRowOf automaton.now (AcceptsFrom automaton.now self.old.from) self.new
+            result }
         ensures visits { visits.new ≤ visits.old + (size automaton.now + 1) }
         ensures counted { visits.old ≤ visits.new }
     {
         list_of(&self.from, automaton.state_count(), &mut self.list, visits);
-        let found = self.seek(automaton, visits);
-        self.place_of_row(found.row)
+        self.seek(automaton, visits).place
     }
 }

@@ -62,8 +62,8 @@ returns-else-finish-clause-found c = λ k.
     let none = none_last (half m) (AcceptsRow m rows j') (λ d lt a. true≢false (sym ((c.finish.ensures.some j' at').1 (d, lt, a)) ∙ c.if-finish.false)) k in
     iff_trans (iff_trans (λ h. inr h, ⊎_elim {C = IsTrue (has_index c.find_from.new.found k)} (λ f. absurd (none f)) (λ h. h)) (rw past at finds k)) (runs k)
 
-pub step-step-requires-clause-row : goal.step-step-requires-clause-row
-step-step-requires-clause-row c =
+pub leave-step-requires-clause-row : goal.leave-step-requires-clause-row
+leave-step-requires-clause-row c =
     let (j, at, runs) = c.loop-left.invariant.runs in
     let left = rw c.in-Some.is at c.find_from.ensures.found j at in
     let (j', at', finds) = left.row in
@@ -82,18 +82,19 @@ returns-in_default-next-clause-found c = λ k.
     let after = drop (n + 1) rest in
     let more : drop n rest ≡ b ∷ after = drop_more rest n 0 lt in
     let (j', at', finds) = left.row in
-    let step = c.step-step.ensures.step j' at' in
+    let step = c.leave-step.ensures.step j' at' in
+    let ended = c.leave-step.ensures.ends j' at' in
     let dead = rw c.in_default-next.is at step.next in
-    let told = rw c.index_count-half.ensures at c.tell.ensures.has in
-    iff_trans (dead_found (half m) (AcceptsRow m rows j') c.step-step.result.has_marks (has_index c.step-step.new.self.ends) step.marks step.ends
-    b dead after k (has_index c.find_from.new.found k) (has_index c.tell.new.found k) _ (told k) (rw more at finds k)) (runs k)
+    let told = rw c.index_count-half.ensures at c.tell_ends-in-loop-left.ensures.has in
+    iff_trans (dead_found (half m) (AcceptsRow m rows j') (has_index c.leave-step.new.self.ends) ended
+    b dead after k (has_index c.find_from.new.found k) (has_index c.tell_ends-in-loop-left.new.into k) _ (told k) (rw more at finds k)) (runs k)
 
 pub find_stepped-requires-clause-row : goal.find_stepped-requires-clause-row
 find_stepped-requires-clause-row c =
     let (j, at, runs) = c.loop-left.invariant.runs in
     let left = rw c.in-Some.is at c.find_from.ensures.found j at in
     let (j', at', finds) = left.row in
-    let (next, there, goes) = rw c.in-Some-next.is at (c.step-step.ensures.step j' at').next in
+    let (next, there, goes) = rw c.in-Some-next.is at (c.leave-step.ensures.step j' at').next in
     (next, there)
 
 pub returns-in_default-find_stepped-clause-found : goal.returns-in_default-find_stepped-clause-found
@@ -111,11 +112,12 @@ returns-in_default-find_stepped-clause-found c = λ k.
     let more : drop n rest ≡ b ∷ after = drop_more rest n 0 lt in
     let past = take_rest rest (n + 1) in
     let (j', at', finds) = left.row in
-    let step = c.step-step.ensures.step j' at' in
+    let step = c.leave-step.ensures.step j' at' in
+    let ended = c.leave-step.ensures.ends j' at' in
     let (next, there, goes) = rw c.in-Some-next.is at step.next in
-    let told = rw c.index_count-half.ensures at c.tell.ensures.has in
-    iff_trans ((rw (c.in_default-find_stepped.is, past) at c.find_stepped.ensures.found next there) k) (iff_trans (next_found (half m) (AcceptsRow m rows j') c.step-step.result.has_marks (has_index c.step-step.new.self.ends) step.marks step.ends
-    (AcceptsRow m c.step-step.new.self next) b goes after k (has_index c.find_from.new.found k) (has_index c.tell.new.found k) _ (told k) (rw more at finds k)) (runs k))
+    let told = rw c.index_count-half.ensures at c.tell_ends-in-loop-left.ensures.has in
+    iff_trans ((rw (c.in_default-find_stepped.is, past) at c.find_stepped.ensures.found next there) k) (iff_trans (next_found (half m) (AcceptsRow m rows j') (has_index c.leave-step.new.self.ends) ended
+    (AcceptsRow m c.leave-step.new.self next) b goes after k (has_index c.find_from.new.found k) (has_index c.tell_ends-in-loop-left.new.into k) _ (told k) (rw more at finds k)) (runs k))
 
 pub returns-in_default-find_stepped-clause-visits : goal.returns-in_default-find_stepped-clause-visits
 returns-in_default-find_stepped-clause-visits c =
@@ -130,7 +132,7 @@ returns-in_default-find_stepped-clause-visits c =
     let w = size m + 1 in
     let len : length after ≡ length rest - (n + 1) = length-drop (n + 1) rest in
     let whole : length rest ≡ length after + n + 1 = omega (arith, len, lt) in
-    let before = visits_left (length after) n w c.loop-left.visits c.find_from.new.visits c.step-step.new.visits _ (omega arith) c.in-Some.ensures.visits (omega (arith, c.step-step.ensures.visits)) (rw whole at inv.visits) in
+    let before = visits_left (length after) n w c.loop-left.visits c.find_from.new.visits c.leave-step.new.visits _ (omega arith) c.in-Some.ensures.visits (omega (arith, c.leave-step.ensures.visits)) (rw whole at inv.visits) in
     let stepped = rw (c.in_default-find_stepped.is, take_rest rest (n + 1)) at c.find_stepped.ensures.visits in
     omega (arith, before, stepped)
 
@@ -139,7 +141,7 @@ slice_bounds-rest-count-in-loop-left c =
     let (j, at, runs) = c.loop-left.invariant.runs in
     let left = rw c.in-Some.is at c.find_from.ensures.found j at in
     let (j', at', finds) = left.row in
-    let (next, there, goes) = rw c.in-Some-next.is at (c.step-step.ensures.step j' at').next in
+    let (next, there, goes) = rw c.in-Some-next.is at (c.leave-step.ensures.step j' at').next in
     (rw c.in-Some-find_stepped.is at c.find_stepped.ensures.found next there).within
 
 pub slice_bounds-rest-start-in-loop-left : goal.slice_bounds-rest-start-in-loop-left
@@ -147,7 +149,7 @@ slice_bounds-rest-start-in-loop-left c =
     let (j, at, runs) = c.loop-left.invariant.runs in
     let left = rw c.in-Some.is at c.find_from.ensures.found j at in
     let (j', at', finds) = left.row in
-    let (next, there, goes) = rw c.in-Some-next.is at (c.step-step.ensures.step j' at').next in
+    let (next, there, goes) = rw c.in-Some-next.is at (c.leave-step.ensures.step j' at').next in
     (rw c.in-Some-find_stepped.is at c.find_stepped.ensures.found next there).within
 
 pub loop-left-smaller : goal.loop-left-smaller
@@ -176,26 +178,27 @@ loop-left-preserved c =
     let more : drop n rest ≡ b ∷ after = drop_more rest n 0 lt in
     let past = take_rest rest (n + 1) in
     let (j', at', finds) = left.row in
-    let step = c.step-step.ensures.step j' at' in
+    let step = c.leave-step.ensures.step j' at' in
+    let ended = c.leave-step.ensures.ends j' at' in
     let (next, there, goes) = rw c.in-Some-next.is at step.next in
-    let told = rw c.index_count-half.ensures at c.tell.ensures.has in
+    let told = rw c.index_count-half.ensures at c.tell_ends-in-loop-left.ensures.has in
     let w = size m + 1 in
     let len : length after ≡ length rest - (n + 1) = length-drop (n + 1) rest in
     let whole : length rest ≡ length after + n + 1 = omega (arith, len, lt) in
-    let before = visits_left (length after) n w c.loop-left.visits c.find_from.new.visits c.step-step.new.visits _ (omega arith) c.in-Some.ensures.visits (omega (arith, c.step-step.ensures.visits)) (rw whole at inv.visits) in
+    let before = visits_left (length after) n w c.loop-left.visits c.find_from.new.visits c.leave-step.new.visits _ (omega arith) c.in-Some.ensures.visits (omega (arith, c.leave-step.ensures.visits)) (rw whole at inv.visits) in
     let p = c.in-Some-find_stepped.left.at in
     let stepped = rw (c.in-Some-find_stepped.is, past) at c.find_stepped.ensures.found next there in
     let (last, here, finds') = stepped.row in
     let parts : length after ≡ length (drop p after) + p = omega (arith, length-drop p after, stepped.within) in
     rw (past, take_rest after p) record {
       sound = c.find_stepped.ensures.sound;
-      room = c.find_stepped.ensures.room ∙ c.tell.ensures.room ∙ c.find_from.ensures.room ∙ inv.room;
+      room = c.find_stepped.ensures.room ∙ c.tell_ends-in-loop-left.ensures.room ∙ c.find_from.ensures.room ∙ inv.room;
       runs = (
         last,
         here,
-        λ k. iff_trans (finds' k) (iff_trans (next_found (half m) (AcceptsRow m rows j') c.step-step.result.has_marks (has_index c.step-step.new.self.ends) step.marks step.ends
-            (AcceptsRow m c.step-step.new.self next) b goes after k (has_index c.find_from.new.found k) (has_index c.tell.new.found k) _ (told k) (rw more at finds k)) (runs k)),
+        λ k. iff_trans (finds' k) (iff_trans (next_found (half m) (AcceptsRow m rows j') (has_index c.leave-step.new.self.ends) ended
+            (AcceptsRow m c.leave-step.new.self next) b goes after k (has_index c.find_from.new.found k) (has_index c.tell_ends-in-loop-left.new.into k) _ (told k) (rw more at finds k)) (runs k)),
       );
-      visits = visits_stepped (length (drop p after)) p w c.step-step.new.visits c.find_stepped.new.visits _ (rw parts at before) c.in-Some-find_stepped.ensures.visits;
-      counted = omega (arith, inv.counted, c.find_from.ensures.counted, c.step-step.ensures.counted, c.find_stepped.ensures.counted);
+      visits = visits_stepped (length (drop p after)) p w c.leave-step.new.visits c.find_stepped.new.visits _ (rw parts at before) c.in-Some-find_stepped.ensures.visits;
+      counted = omega (arith, inv.counted, c.find_from.ensures.counted, c.leave-step.ensures.counted, c.find_stepped.ensures.counted);
     }

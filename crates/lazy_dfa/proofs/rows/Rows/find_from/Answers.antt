@@ -12,7 +12,7 @@ use Rattle.lazy_dfa.proofs.lemmas.Ends.{all_found, found_listed}
 use Rattle.lazy_dfa.proofs.lemmas.Finding.{iff_beside, at_quiet, at_dead, told_found}
 use Rattle.lazy_dfa.proofs.lemmas.Rows.{one_row, one_written}
 use Rattle.lazy_dfa.proofs.rows.Rows.find_from.Goals as goal
-use Rattle.lazy_dfa.proofs.rows.Rows.find_from.Goals.{in-Some, in_default+in-Some-marked_next+then-not-is_told+else-count-indexes, in_default+in-Some-marked_next+else-not-is_told}
+use Rattle.lazy_dfa.proofs.rows.Rows.find_from.Goals.{in-Some, in_default+in-Some-told_step+in-Some-next+then-not-is_told+else-count-indexes, in_default+in-Some-told_step+in-Some-next+else-not-is_told}
 
 -- no place is remembered in zeros
 none_told : (s p : ℕ) → slice_index (replicate 16 0) s ≡ p + 1 → ⊥
@@ -43,8 +43,8 @@ loop-byte-init c =
       counted = omega arith;
     }
 
-pub marked_next-requires-clause-told : goal.marked_next-requires-clause-told
-marked_next-requires-clause-told c = λ on i at. c.loop-byte.invariant.told c.slot_of-slot.result c.loop-byte.place (eqb-true _ _ on) i at
+pub told_step-requires-clause-told : goal.told_step-requires-clause-told
+told_step-requires-clause-told c = λ on i at. c.loop-byte.invariant.told c.slot_of-slot.result c.loop-byte.place (eqb-true _ _ on) i at
 
 pub returns-then-count-indexes-clause-found : goal.returns-then-count-indexes-clause-found
 returns-then-count-indexes-clause-found c = λ i at k.
@@ -59,17 +59,17 @@ returns-then-count-indexes-clause-found c = λ i at k.
     let rest = drop (n + 1) text in
     let more : drop n text ≡ b ∷ rest = drop_more text n 0 lt in
     let (j, there, runs) = inv.runs in
-    let marked = rw c.in-Some-marked_next.is at c.marked_next.ensures.next j there in
-    let (next, there', goes) = marked.next in
-    let so_far = told_found (half m) (AcceptsRow m rows j) (AcceptsRow m rows next) b goes rest k (has_index l.found k) (has_index c.marked_next.new.found k) _ (marked.told k) (rw more at runs i at k) in (
+    let told = rw c.in-Some-told_step.is at c.told_step.ensures.step j there in
+    let (next, there', goes) = rw c.in-Some-next.is at told.known.next in
+    let so_far = told_found (half m) (AcceptsRow m rows j) (AcceptsRow m rows next) b goes rest k (has_index l.found k) (has_index c.told_step.new.found k) _ (told.told k) (rw more at runs i at k) in (
       λ h. so_far.0 (inr h),
-      ⊎_elim {C = IsTrue (has_index c.marked_next.new.found k)}
-          (λ f. all_found c.args.indexes.now c.found_count-count.result c.marked_next.new.found c.found_count-count.ensures c.if-count-indexes.true k (found_listed m rows i c.args.indexes.now c.requires.listed text k f))
-          (λ old. (marked.told k).1 (inr (inv.kept k old))),
+      ⊎_elim {C = IsTrue (has_index c.told_step.new.found k)}
+          (λ f. all_found c.args.indexes.now c.found_count-count.result c.told_step.new.found c.found_count-count.ensures c.if-count-indexes.true k (found_listed m rows i c.args.indexes.now c.requires.listed text k f))
+          (λ old. (told.told k).1 (inr (inv.kept k old))),
     )
 
-pub returns-then-is_known_dead-clause-found : goal.returns-then-is_known_dead-clause-found
-returns-then-is_known_dead-clause-found c = λ i at k.
+pub returns-in_default-next-clause-found : goal.returns-in_default-next-clause-found
+returns-in_default-next-clause-found c = λ i at k.
     let m = c.args.automaton.now in
     let rows = c.args.self.now in
     let text = c.args.text.now in
@@ -80,19 +80,18 @@ returns-then-is_known_dead-clause-found c = λ i at k.
     let rest = drop (n + 1) text in
     let more : drop n text ≡ b ∷ rest = drop_more text n 0 lt in
     let (j, there, runs) = l.invariant.runs in
-    let quiet = c.in_default-marked_next.ensures.next j there in
-    let (dead, adds) = rw quiet at c.is_known_dead.ensures.dead j there c.if-is_known_dead.true in
-    iff_trans (adds k) (iff_trans (iff_beside (iff_sym (at_dead (half m) (AcceptsRow m rows j) b dead rest k))) (rw more at runs i at k))
+    let told = rw c.in-Some-told_step.is at c.told_step.ensures.step j there in
+    let dead = rw c.in_default-next.is at told.known.next in
+    iff_trans (told.told k) (iff_trans (iff_beside (iff_sym (at_dead (half m) (AcceptsRow m rows j) b dead rest k))) (rw more at runs i at k))
 
-pub returns-else-is_known_dead-clause-found : goal.returns-else-is_known_dead-clause-found
-returns-else-is_known_dead-clause-found c = λ i at.
+pub returns-in_default-told_step-clause-found : goal.returns-in_default-told_step-clause-found
+returns-in_default-told_step-clause-found c = λ i at.
     let inv = c.loop-byte.invariant in
     let (j, there, runs) = inv.runs in
-    let quiet = c.in_default-marked_next.ensures.next j there in
-    let (same, _) = c.is_known_dead.ensures.none c.if-is_known_dead.false in
+    let same = rw c.in_default-told_step.is at c.told_step.ensures.step j there in
     record {
       within = omega (arith, inv.at, c.loop-byte-test.true);
-      row = (j, there, rw (inv.at, same, quiet) (runs i at));
+      row = (j, there, rw (inv.at, same) (runs i at));
     }
 
 pub loop-byte-preserved : goal.loop-byte-preserved
@@ -122,45 +121,45 @@ loop-byte-preserved c =
             visits = omega (arith, w.in-Some.ensures.visits, inv.visits);
             counted = omega (arith, w.in-Some.ensures.visits, inv.counted);
           }
-      | in_default+in-Some-marked_next+then-not-is_told+else-count-indexes w ↦
-          let marked = rw w.in-Some-marked_next.is at w.marked_next.ensures.next j there in
-          let (next, there', goes) = marked.next in
+      | in_default+in-Some-told_step+in-Some-next+then-not-is_told+else-count-indexes w ↦
+          let told = rw w.in-Some-told_step.is at w.told_step.ensures.step j there in
+          let (next, there', goes) = rw w.in-Some-next.is at told.known.next in
           rw (w.found-is, w.place-is, w.told-is, w.count-is, w.visits-is) record {
             at = omega (arith, inv.at);
-            room = w.marked_next.ensures.room ∙ inv.room;
-            kept = λ k h. (marked.told k).1 (inr (inv.kept k h));
+            room = w.told_step.ensures.room ∙ inv.room;
+            kept = λ k h. (told.told k).1 (inr (inv.kept k h));
             runs = (
               next,
               there',
-              λ i at k. told_found (half m) (AcceptsRow m rows j) (AcceptsRow m rows next) b goes rest k (has_index l.found k) (has_index w.marked_next.new.found k) _ (marked.told k) (rw more at runs i at k),
+              λ i at k. told_found (half m) (AcceptsRow m rows j) (AcceptsRow m rows next) b goes rest k (has_index l.found k) (has_index w.told_step.new.found k) _ (told.told k) (rw more at runs i at k),
             );
             slots = length-set l.told w.slot_of-slot.result (l.place + 1) ∙ inv.slots;
-            told = λ s p is j' at' k low a. ⊎_elim {C = IsTrue (has_index w.marked_next.new.found k)}
+            told = λ s p is j' at' k low a. ⊎_elim {C = IsTrue (has_index w.told_step.new.found k)}
                 (λ here. let same : p ≡ l.place = omega (arith, here) in
-                ((rw w.in-Some-marked_next.is at w.marked_next.ensures.next j' (subst (IsAt rows j') same at')).told k).1 (inl (low, a)))
-                (λ before. (marked.told k).1 (inr (inv.told s p before j' at' k low a)))
+                ((rw w.in-Some-told_step.is at w.told_step.ensures.step j' (subst (IsAt rows j') same at')).told k).1 (inl (low, a)))
+                (λ before. (told.told k).1 (inr (inv.told s p before j' at' k low a)))
                 (one_written l.told w.slot_of-slot.result (l.place + 1) s (p + 1) (omega (arith, inv.slots, w.slot_of-slot.ensures)) is);
             count = w.found_count-count.ensures;
-            visits = omega (arith, w.in-Some-marked_next.ensures.visits, w.in_default.ensures.visits, inv.visits);
-            counted = omega (arith, w.in-Some-marked_next.ensures.visits, w.in_default.ensures.visits, inv.counted);
+            visits = omega (arith, w.in-Some-told_step.ensures.visits, w.in_default.ensures.visits, inv.visits);
+            counted = omega (arith, w.in-Some-told_step.ensures.visits, w.in_default.ensures.visits, inv.counted);
           }
-      | in_default+in-Some-marked_next+else-not-is_told w ↦
-          let marked = rw w.in-Some-marked_next.is at w.marked_next.ensures.next j there in
-          let (next, there', goes) = marked.next in
+      | in_default+in-Some-told_step+in-Some-next+else-not-is_told w ↦
+          let told = rw w.in-Some-told_step.is at w.told_step.ensures.step j there in
+          let (next, there', goes) = rw w.in-Some-next.is at told.known.next in
           rw (w.found-is, w.place-is, w.told-is, w.count-is, w.visits-is) record {
             at = omega (arith, inv.at);
-            room = w.marked_next.ensures.room ∙ inv.room;
-            kept = λ k h. (marked.told k).1 (inr (inv.kept k h));
+            room = w.told_step.ensures.room ∙ inv.room;
+            kept = λ k h. (told.told k).1 (inr (inv.kept k h));
             runs = (
               next,
               there',
-              λ i at k. told_found (half m) (AcceptsRow m rows j) (AcceptsRow m rows next) b goes rest k (has_index l.found k) (has_index w.marked_next.new.found k) _ (marked.told k) (rw more at runs i at k),
+              λ i at k. told_found (half m) (AcceptsRow m rows j) (AcceptsRow m rows next) b goes rest k (has_index l.found k) (has_index w.told_step.new.found k) _ (told.told k) (rw more at runs i at k),
             );
             slots = inv.slots;
-            told = λ s p is j' at' k low a. (marked.told k).1 (inr (inv.told s p is j' at' k low a));
-            count = λ d lt' lt''. (marked.told _).1 (inr (inv.count d lt' lt''));
-            visits = omega (arith, w.in-Some-marked_next.ensures.visits, w.in_default.ensures.visits, inv.visits);
-            counted = omega (arith, w.in-Some-marked_next.ensures.visits, w.in_default.ensures.visits, inv.counted);
+            told = λ s p is j' at' k low a. (told.told k).1 (inr (inv.told s p is j' at' k low a));
+            count = λ d lt' lt''. (told.told _).1 (inr (inv.count d lt' lt''));
+            visits = omega (arith, w.in-Some-told_step.ensures.visits, w.in_default.ensures.visits, inv.visits);
+            counted = omega (arith, w.in-Some-told_step.ensures.visits, w.in_default.ensures.visits, inv.counted);
           }
     ]
 

@@ -1,32 +1,11 @@
 use Rattle.std.proofs.Common.{◌≡◌, ℕ, ◌+◌, ◌<◌, [], true≢false, arith, refl, sym, ◌∙◌}
 use Rattle.bit_sets.specs.Indexes.{has_index}
 use Rattle.lazy_dfa.specs.inner.Sources.{half}
-use Rattle.lazy_dfa.proofs.lemmas.Rows.{in_range, accepts_kept, ends_kept, read_end}
+use Rattle.lazy_dfa.proofs.lemmas.Rows.{in_range, accepts_kept, ends_kept}
 use Rattle.lazy_dfa.proofs.rows.Rows.finish.Goals as goal
 
 row_there : (row i n : ℕ) → row ≡ i → i < n → row < n
 row_there row i n same lt = omega (arith, same, lt)
-
-pub returns-then-end-eq-DEAD-clause-some : goal.returns-then-end-eq-DEAD-clause-some
-returns-then-end-eq-DEAD-clause-some c = λ i (lt, is).
-    let here = row_there c.row_at-row.result i _ (c.row_at-row.ensures i is) lt in
-    let end = read_end c.args.automaton.now c.args.self.now c.row_at-row.result c.requires.sound here c.entry-end.result c.entry-end.ensures (omega arith) in
-    rw (sym (c.row_at-row.ensures i is)) (λ h. absurd (true≢false (sym h)), λ (k, lt, a). absurd (end.none c.if-end-eq-DEAD.true k lt a))
-
-pub load_ends-requires-clause-end : goal.load_ends-requires-clause-end
-load_ends-requires-clause-end c =
-    let (i, (lt, is)) = c.requires.row in
-    let here = row_there c.row_at-row.result i _ (c.row_at-row.ensures i is) lt in
-    read_end c.args.automaton.now c.args.self.now c.row_at-row.result c.requires.sound here c.entry-end.result c.entry-end.ensures (omega arith)
-
-pub returns-then-end-ge-FIRST-clause-some : goal.returns-then-end-ge-FIRST-clause-some
-returns-then-end-ge-FIRST-clause-some c = λ i (lt, is).
-    let here = row_there c.row_at-row.result i _ (c.row_at-row.ensures i is) lt in
-    let end = read_end c.args.automaton.now c.args.self.now c.row_at-row.result c.requires.sound here c.entry-end.result c.entry-end.ensures (omega arith) in
-    rw (sym (c.row_at-row.ensures i is)) (λ _. end.some (omega arith), λ _. refl)
-
-pub returns-then-end-ge-FIRST-clause-ends : goal.returns-then-end-ge-FIRST-clause-ends
-returns-then-end-ge-FIRST-clause-ends c = λ i (lt, is) _. rw (sym (c.row_at-row.ensures i is)) c.load_ends.ensures.ends
 
 pub keep_ends-requires-clause-ends : goal.keep_ends-requires-clause-ends
 keep_ends-requires-clause-ends c =

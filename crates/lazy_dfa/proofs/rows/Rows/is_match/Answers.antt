@@ -11,8 +11,14 @@ returns-in-Decided-clause-some c = let m = c.args.automaton.now in decided_end (
 pub returns-in-Nothing-clause-some : goal.returns-in-Nothing-clause-some
 returns-in-Nothing-clause-some c = let m = c.args.automaton.now in nothing_end (half m) (IsReached m) c.args.text.now (rw c.in-Nothing.is at c.read.ensures.reached)
 
-pub returns-in-Row-clause-some : goal.returns-in-Row-clause-some
-returns-in-Row-clause-some c =
+pub returns-in-Some-clause-some : goal.returns-in-Some-clause-some
+returns-in-Some-clause-some c =
+    let m = c.args.automaton.now in
+    let (i, at, finds) = rw c.in-Row.is at c.read.ensures.reached in
+    iff_trans (rw c.in-Some.is at c.known_end.ensures.some i at) (row_end (half m) (IsReached m) c.args.text.now (AcceptsRow m c.read.new.self i) finds)
+
+pub returns-in-None-clause-some : goal.returns-in-None-clause-some
+returns-in-None-clause-some c =
     let m = c.args.automaton.now in
     let (i, at, finds) = rw c.in-Row.is at c.read.ensures.reached in
     iff_trans (c.finish.ensures.some i at) (row_end (half m) (IsReached m) c.args.text.now (AcceptsRow m c.read.new.self i) finds)

@@ -1,10 +1,15 @@
-use Rattle.std.proofs.Common.{ℕ, ◌+◌, length, ap, arith}
+use Rattle.std.proofs.Common.{ℕ, ◌+◌, length, ap, arith, subst, sym, ◌∙◌}
 use Rattle.std.proofs.lemmas.Nat.{mul-le}
+use Rattle.byte_nfa.proofs.lemmas.Pass.{iff_trans}
+use Rattle.lazy_dfa.specs.inner.Rows.{IsFirst}
+use Rattle.lazy_dfa.proofs.lemmas.Lists.{iff_sym}
+use Rattle.lazy_dfa.proofs.lemmas.Rows.{accepts_listed}
 use Rattle.lazy_dfa.proofs.rows.Rows.new.Goals as goal
 
 pub returns : goal.returns
 returns c =
     let m = c.args.automaton.now in
+    let list = c.list_of.new.list.items in
     let starts = ap length c.in_ok-with_capacity.ensures.items in
     let entries = ap length c.in_ok-with_capacity-3.ensures.items in
     let w : ℕ = c.new-classes.result.count + 1 in
@@ -12,12 +17,16 @@ returns c =
     record {
       fits = c.requires;
       room = record {
-        from = omega (arith, c.state_count-states.ensures, c.in_ok-new.ensures.room);
-        next = omega (arith, c.state_count-states.ensures, c.in_ok-new-2.ensures.room);
-        first = c.in_ok-first.ensures;
-        ends = omega (arith, c.index_count-indexes.ensures, c.in_ok-new-3.ensures.room);
-        list = omega (arith, c.state_count-states.ensures, c.in_ok-with_capacity-4.ensures.capacity);
-        told = omega (arith, c.index_count-indexes.ensures, c.in_ok-with_capacity-5.ensures.capacity);
+        from = omega (arith, c.state_count-states.ensures, c.in_ok-from.ensures.room, c.start.ensures.room);
+        next = omega (arith, c.state_count-states.ensures, c.in_ok-new.ensures.room);
+        first = subst (IsFirst m) (sym (c.copy_within.ensures.items ∙ c.deref.ensures.value)) record {
+          below = rw c.state_count-states.ensures at c.list_of.ensures.below;
+          few = omega (arith, c.list_of.ensures.few, c.state_count-states.ensures);
+          accepts = λ y k. iff_trans (iff_sym (accepts_listed m c.start.new.into list (rw c.state_count-states.ensures at c.list_of.ensures.has) y k)) (c.start.ensures.starts y k);
+        };
+        ends = omega (arith, c.index_count-indexes.ensures, c.in_ok-new-2.ensures.room);
+        list = omega (arith, c.state_count-states.ensures, c.in_ok-list.ensures.capacity, c.list_of.ensures.capacity);
+        told = omega (arith, c.index_count-indexes.ensures, c.in_ok-with_capacity-4.ensures.capacity);
         lists = omega (arith, c.state_count-states.ensures, c.in_ok-with_capacity-2.ensures.capacity, c.room_within-room.ensures.listed);
         starts = omega (arith, c.in_ok-with_capacity.ensures.capacity, c.room_within-room.ensures.rows);
         entries = omega (arith, one, c.in_ok-with_capacity-3.ensures.capacity, c.saturating_mul-2.ensures);

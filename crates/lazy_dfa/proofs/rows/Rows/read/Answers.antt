@@ -52,7 +52,7 @@ returns-then-step-clause-reached c = λ z.
     let after = c.in-Some.after.now in
     let more : drop n rest ≡ b ∷ after = sym (take_rest rest n) ∙ (rw c.in-Some.is at c.split_first.ensures.cases).0 in
     let (j', at', finds) = left.row in
-    let step = c.step-step.ensures.step j' at' in
+    let step = c.leave-step.ensures.step j' at' in
     let (k, low, a) = step.marks.0 c.if-step.true in
     (k, (runs z k).0 ((rw more at finds z k).0 (low, inr ([], b ∷ after ++ z, refl, a))))
 
@@ -68,7 +68,7 @@ returns-in_default-next-clause-reached c = λ z k found.
     let after = c.in-Some.after.now in
     let more : drop n rest ≡ b ∷ after = sym (take_rest rest n) ∙ (rw c.in-Some.is at c.split_first.ensures.cases).0 in
     let (j', at', finds) = left.row in
-    let step = c.step-step.ensures.step j' at' in
+    let step = c.leave-step.ensures.step j' at' in
     let dead = rw c.in_default-next.is at step.next in
     let (low, a) = (at_dead (half m) (AcceptsRow m rows j') b dead (after ++ z) k).0 ((rw more at finds z k).1 ((runs z k).1 found)) in
     true≢false (sym (step.marks.1 (k, low, a)) ∙ c.if-step.false)
@@ -84,7 +84,7 @@ returns-then-step-clause-visits c =
     let after = c.in-Some.after.now in
     let more = sym (take_rest rest n) ∙ (rw c.in-Some.is at c.split_first.ensures.cases).0 in
     let whole : length rest ≡ length after + n + 1 = omega (arith, length-drop n rest, ap length more, left.within) in
-    let h = visits_left (length after) n (size m + 1) c.loop-reached.visits c.read_from.new.visits c.step-step.new.visits _ (omega arith) c.in-Err.ensures.visits (omega (arith, c.step-step.ensures.visits)) (rw whole at inv.visits) in
+    let h = visits_left (length after) n (size m + 1) c.loop-reached.visits c.read_from.new.visits c.leave-step.new.visits _ (omega arith) c.in-Err.ensures.visits (omega (arith, c.leave-step.ensures.visits)) (rw whole at inv.visits) in
     omega (arith, h)
 
 pub returns-in_default-next-clause-visits : goal.returns-in_default-next-clause-visits
@@ -98,7 +98,7 @@ returns-in_default-next-clause-visits c =
     let after = c.in-Some.after.now in
     let more = sym (take_rest rest n) ∙ (rw c.in-Some.is at c.split_first.ensures.cases).0 in
     let whole : length rest ≡ length after + n + 1 = omega (arith, length-drop n rest, ap length more, left.within) in
-    let h = visits_left (length after) n (size m + 1) c.loop-reached.visits c.read_from.new.visits c.step-step.new.visits _ (omega arith) c.in-Err.ensures.visits (omega (arith, c.step-step.ensures.visits)) (rw whole at inv.visits) in
+    let h = visits_left (length after) n (size m + 1) c.loop-reached.visits c.read_from.new.visits c.leave-step.new.visits _ (omega arith) c.in-Err.ensures.visits (omega (arith, c.leave-step.ensures.visits)) (rw whole at inv.visits) in
     omega (arith, h)
 
 pub read_stepped-requires-clause-row : goal.read_stepped-requires-clause-row
@@ -107,7 +107,7 @@ read_stepped-requires-clause-row c =
     let (j, at, runs) = c.loop-reached.invariant.runs in
     let left = rw c.in-Err.is at c.read_from.ensures.reached j at in
     let (j', at', finds) = left.row in
-    let (next, there, goes) = rw c.in-Some-next.is at (c.step-step.ensures.step j' at').next in
+    let (next, there, goes) = rw c.in-Some-next.is at (c.leave-step.ensures.step j' at').next in
     (next, there)
 
 pub returns-in-Ok-read_stepped-clause-reached : goal.returns-in-Ok-read_stepped-clause-reached
@@ -123,10 +123,10 @@ returns-in-Ok-read_stepped-clause-reached c =
     let after = c.in-Some.after.now in
     let more : drop n rest ≡ b ∷ after = sym (take_rest rest n) ∙ (rw c.in-Some.is at c.split_first.ensures.cases).0 in
     let (j', at', finds) = left.row in
-    let step = c.step-step.ensures.step j' at' in
+    let step = c.leave-step.ensures.step j' at' in
     let (next, there, goes) = rw c.in-Some-next.is at step.next in
-    read_on m c.read_stepped.new.self (AcceptsRow m c.step-step.new.self next) (IsReached m) after c.args.text.now c.in-Ok-read_stepped.reached
-    (λ z k. iff_trans (iff_trans (at_quiet (half m) (AcceptsRow m rows j') (AcceptsRow m c.step-step.new.self next) b goes
+    read_on m c.read_stepped.new.self (AcceptsRow m c.leave-step.new.self next) (IsReached m) after c.args.text.now c.in-Ok-read_stepped.reached
+    (λ z k. iff_trans (iff_trans (at_quiet (half m) (AcceptsRow m rows j') (AcceptsRow m c.leave-step.new.self next) b goes
     (λ d low a. true≢false (sym (step.marks.1 (d, low, a)) ∙ c.if-step.false)) (after ++ z) k) (rw more at finds z k)) (runs z k))
     (rw c.in-Ok-read_stepped.is at c.read_stepped.ensures.reached next there)
 
@@ -142,7 +142,7 @@ returns-in-Ok-read_stepped-clause-visits c =
     let more = sym (take_rest rest n) ∙ (rw c.in-Some.is at c.split_first.ensures.cases).0 in
     let w = size m + 1 in
     let whole : length rest ≡ length after + n + 1 = omega (arith, length-drop n rest, ap length more, left.within) in
-    let before = visits_left (length after) n w c.loop-reached.visits c.read_from.new.visits c.step-step.new.visits _ (omega arith) c.in-Err.ensures.visits (omega (arith, c.step-step.ensures.visits)) (rw whole at inv.visits) in
+    let before = visits_left (length after) n w c.loop-reached.visits c.read_from.new.visits c.leave-step.new.visits _ (omega arith) c.in-Err.ensures.visits (omega (arith, c.leave-step.ensures.visits)) (rw whole at inv.visits) in
     omega (arith, before, rw c.in-Ok-read_stepped.is at c.read_stepped.ensures.visits)
 
 pub slice_bounds-rest-count : goal.slice_bounds-rest-count
@@ -151,7 +151,7 @@ slice_bounds-rest-count c =
     let (j, at, runs) = c.loop-reached.invariant.runs in
     let left = rw c.in-Err.is at c.read_from.ensures.reached j at in
     let (j', at', finds) = left.row in
-    let (next, there, goes) = rw c.in-Some-next.is at (c.step-step.ensures.step j' at').next in
+    let (next, there, goes) = rw c.in-Some-next.is at (c.leave-step.ensures.step j' at').next in
     (rw c.in-Err-read_stepped.is at c.read_stepped.ensures.reached next there).within
 
 pub slice_bounds-rest-start : goal.slice_bounds-rest-start
@@ -160,7 +160,7 @@ slice_bounds-rest-start c =
     let (j, at, runs) = c.loop-reached.invariant.runs in
     let left = rw c.in-Err.is at c.read_from.ensures.reached j at in
     let (j', at', finds) = left.row in
-    let (next, there, goes) = rw c.in-Some-next.is at (c.step-step.ensures.step j' at').next in
+    let (next, there, goes) = rw c.in-Some-next.is at (c.leave-step.ensures.step j' at').next in
     (rw c.in-Err-read_stepped.is at c.read_stepped.ensures.reached next there).within
 
 pub loop-reached-smaller : goal.loop-reached-smaller
@@ -187,11 +187,11 @@ loop-reached-preserved c =
     let after = c.in-Some.after.now in
     let more : drop n rest ≡ b ∷ after = sym (take_rest rest n) ∙ (rw c.in-Some.is at c.split_first.ensures.cases).0 in
     let (j', at', finds) = left.row in
-    let step = c.step-step.ensures.step j' at' in
+    let step = c.leave-step.ensures.step j' at' in
     let (next, there, goes) = rw c.in-Some-next.is at step.next in
     let w = size m + 1 in
     let whole : length rest ≡ length after + n + 1 = omega (arith, length-drop n rest, ap length more, left.within) in
-    let before = visits_left (length after) n w c.loop-reached.visits c.read_from.new.visits c.step-step.new.visits _ (omega arith) c.in-Err.ensures.visits (omega (arith, c.step-step.ensures.visits)) (rw whole at inv.visits) in
+    let before = visits_left (length after) n w c.loop-reached.visits c.read_from.new.visits c.leave-step.new.visits _ (omega arith) c.in-Err.ensures.visits (omega (arith, c.leave-step.ensures.visits)) (rw whole at inv.visits) in
     let p = c.in-Err-read_stepped.left.at in
     let stepped = rw c.in-Err-read_stepped.is at c.read_stepped.ensures.reached next there in
     let (last, here, finds') = stepped.row in
@@ -201,9 +201,9 @@ loop-reached-preserved c =
       runs = (
         last,
         here,
-        λ z k. iff_trans (finds' z k) (iff_trans (iff_trans (at_quiet (half m) (AcceptsRow m rows j') (AcceptsRow m c.step-step.new.self next) b goes
+        λ z k. iff_trans (finds' z k) (iff_trans (iff_trans (at_quiet (half m) (AcceptsRow m rows j') (AcceptsRow m c.leave-step.new.self next) b goes
             (λ d low a. true≢false (sym (step.marks.1 (d, low, a)) ∙ c.if-step.false)) (after ++ z) k) (rw more at finds z k)) (runs z k)),
       );
-      visits = visits_stepped (length (drop p after)) p w c.step-step.new.visits c.read_stepped.new.visits _ (rw parts at before) c.in-Err-read_stepped.ensures.visits;
-      counted = omega (arith, inv.counted, c.read_from.ensures.counted, c.step-step.ensures.counted, c.read_stepped.ensures.counted);
+      visits = visits_stepped (length (drop p after)) p w c.leave-step.new.visits c.read_stepped.new.visits _ (rw parts at before) c.in-Err-read_stepped.ensures.visits;
+      counted = omega (arith, inv.counted, c.read_from.ensures.counted, c.leave-step.ensures.counted, c.read_stepped.ensures.counted);
     }

@@ -13,7 +13,7 @@ returns-in-Ok-clause-reached c =
     let m = c.args.automaton.now in
     let rows = c.args.self.now in
     let text = c.args.text.now in
-    let (j, at, begins) = c.in_ok-place.ensures in
+    let (j, at, begins) = c.requires.begins c.in-Some.place c.in-Some.is in
     read_on m rows (AcceptsRow m rows j) (IsReached m) text text c.in-Ok.reached (λ z k. finds_same (half m) (AcceptsRow m rows j) (IsReached m) begins (text ++ z) k) (rw c.in-Ok.is at c.read_from.ensures.reached j at)
 
 pub returns-else-left-text-clause-reached : goal.returns-else-left-text-clause-reached
@@ -21,7 +21,7 @@ returns-else-left-text-clause-reached c =
     let m = c.args.automaton.now in
     let rows = c.args.self.now in
     let text = c.args.text.now in
-    let (j, at, begins) = c.in_ok-place.ensures in
+    let (j, at, begins) = c.requires.begins c.in-Some.place c.in-Some.is in
     let left = rw c.in-Err.is at c.read_from.ensures.reached j at in
     let (i, there, finds) = left.row in
     let past : drop c.in-Err.left.at text ≡ [] = drop_all c.in-Err.left.at text (omega arith) in

@@ -3,8 +3,8 @@ use Rattle.byte_nfa.proofs.lemmas.Pass.{iff_trans}
 use Rattle.lazy_dfa.proofs.lemmas.Rows.{accepts_listed, same_sound}
 use Rattle.lazy_dfa.proofs.rows.Rows.row_of_from.Goals as goal
 
-pub seek-found-requires-clause-sound : goal.seek-found-requires-clause-sound
-seek-found-requires-clause-sound c =
+pub seek-requires-clause-sound : goal.seek-requires-clause-sound
+seek-requires-clause-sound c =
     let room = c.requires.room in
     same_sound c.args.automaton.now c.args.self.now _ record { starts = refl; lists = refl; class_of = refl; class_count = refl } refl refl record {
       from = room.from;
@@ -21,8 +21,5 @@ seek-found-requires-clause-sound c =
 
 pub returns-clause-row : goal.returns-clause-row
 returns-clause-row c =
-    let m = c.args.automaton.now in (
-      c.seek-found.result.row,
-      (c.seek-found.ensures.row, c.place_of_row.ensures),
-      λ y k. iff_trans (accepts_listed m c.args.self.now.from c.list_of.new.list.items (rw c.state_count.ensures at c.list_of.ensures.has) y k) (c.seek-found.ensures.states y k),
-    )
+    let (j, at, states) = c.seek.ensures.row in
+    (j, at, λ y k. iff_trans (accepts_listed c.args.automaton.now c.args.self.now.from c.list_of.new.list.items (rw c.state_count.ensures at c.list_of.ensures.has) y k) (states y k))

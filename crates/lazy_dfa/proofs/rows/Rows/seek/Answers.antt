@@ -1,6 +1,19 @@
-use Rattle.std.proofs.Common.{◌∙◌, arith}
+use Rattle.std.proofs.Common.{◌∙◌, arith, refl, subst, sym}
 use Rattle.lazy_dfa.proofs.lemmas.Lists.{keeps_then}
+use Rattle.lazy_dfa.specs.inner.Rows.{AcceptsIn}
 use Rattle.lazy_dfa.proofs.rows.Rows.seek.Goals as goal
+
+pub returns-in-Some-clause-row : goal.returns-in-Some-clause-row
+returns-in-Some-clause-row c =
+    let m = c.args.automaton.now in
+    let (lt, same) = rw c.in-Some.is at c.known.ensures in
+    (c.in-Some.row, (lt, refl), λ y k. (λ a. subst (λ l. AcceptsIn m l y k) (sym same) a, λ a. subst (λ l. AcceptsIn m l y k) same a))
+
+pub returns-clause-row : goal.returns-clause-row
+returns-clause-row c =
+    let m = c.args.automaton.now in
+    let same = rw c.make_room-is_kept.ensures.list at c.add-row.ensures.states in
+    (c.add-row.result, (c.add-row.ensures.row, refl), λ y k. (λ a. subst (λ l. AcceptsIn m l y k) (sym same) a, λ a. subst (λ l. AcceptsIn m l y k) same a))
 
 pub returns-clause-kept : goal.returns-clause-kept
 returns-clause-kept c = λ on.

@@ -26,7 +26,8 @@ seek-found-requires-clause-sound c =
 pub returns-clause-begins : goal.returns-clause-begins
 returns-clause-begins c =
     let loaded = c.copy_within.ensures.items ∙ c.deref.ensures.value in
-    (c.seek-found.result.row, (c.seek-found.ensures.row, c.place_of_row-place.ensures), λ y k. iff_trans (iff_sym (c.seek-found.ensures.states y k)) (rw loaded (c.requires.room.first.accepts y k)))
+    let (j, at, states) = c.seek-found.ensures.row in
+    (j, at, λ y k. iff_trans (iff_sym (states y k)) (rw loaded (c.requires.room.first.accepts y k)))
 
 pub returns-clause-sound : goal.returns-clause-sound
 returns-clause-sound c =
@@ -45,5 +46,6 @@ returns-clause-sound c =
       entries = room.entries;
       width = room.width;
     } (λ p at.
-    let same : c.place_of_row-place.result ≡ p = cc in
-    rw (sym same) (c.seek-found.result.row, (c.seek-found.ensures.row, c.place_of_row-place.ensures), λ y k. iff_trans (iff_sym (c.seek-found.ensures.states y k)) (rw loaded (c.requires.room.first.accepts y k)))) sound
+    let same : c.seek-found.result.place ≡ p = cc in
+    let (j, here, states) = c.seek-found.ensures.row in
+    rw (sym same) (j, here, λ y k. iff_trans (iff_sym (states y k)) (rw loaded (c.requires.room.first.accepts y k)))) sound
