@@ -60,7 +60,7 @@ impl Cache {
     {
         let dfa = &other.dfa;
         let mut rows = Rows::new(alloc, dfa.automaton(), bytes)?;
-        rows.take_over(dfa.automaton(), &other.rows);
+        rows.take_over(&other.rows);
         Ok(Cache {
             dfa: Arc::try_clone(dfa)?,
             rows: Box::new(alloc, rows)?,

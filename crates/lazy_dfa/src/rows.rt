@@ -1,12 +1,12 @@
 //! The rows that a cache holds, and how they are made.
 
-ghost use Rattle.std.specs.Prelude.{◌≡◌, ℕ, ◌+◌, ◌-◌, ◌*◌, ◌<◌, ◌≤◌, ◌⊎◌, ◌↔◌, ◌++◌, ◌∷◌, [], List, length, slice_index, replicate, vec_len, vec_capacity, Some, None, IsTrue, IsFalse, IfOk, IfSome, MatchOption};
+ghost use Rattle.std.specs.Prelude.{◌≡◌, ℕ, ◌+◌, ◌-◌, ◌*◌, ◌<◌, ◌≤◌, ◌↔◌, ◌++◌, ◌∷◌, [], List, length, slice_index, replicate, vec_len, vec_capacity, Some, None, IsTrue, IsFalse, IfOk, IfSome};
 ghost use Rattle.bit_sets.specs.Indexes.{has_index, index_capacity};
 ghost use Rattle.bit_sets.specs.StateSets.{state_capacity};
 ghost use Rattle.bit_sets.specs.Numbers.{has_number, AreBelow};
 ghost use Rattle.bit_sets.specs.Texts.{AllBytes};
 ghost use Rattle.byte_nfa.specs.Live.{AreLive};
-ghost use Rattle.byte_nfa.specs.Steps.{IsReached};
+ghost use Rattle.byte_nfa.specs.Steps.{NfaValue};
 ghost use Rattle.byte_nfa.specs.Runs.{size, AcceptsFrom};
 ghost use Rattle.lazy_dfa.specs.inner.Sources.{half, FitsU32};
 ghost use Rattle.lazy_dfa.specs.inner.Rows.{AcceptsIn, AcceptsRow, HasEnds, IsEntry, IsRowOf, IsSound, LeadsTo, MarksAre, AreListed, KeepsRows, HasSpace, states_of, max_entries, marked, BeginsAt, IsAt, IsStep};
@@ -254,7 +254,7 @@ impl Rows {
             return true;
         }
         let column = self.class_count;
-        self.write(automaton, row, column, DEAD);
+        self.write(row, column, DEAD);
         false
     }
 
@@ -272,7 +272,7 @@ impl Rows {
         ensures visits { visits.new ≤ visits.old + (size automaton.now + 1) }
         ensures counted { visits.old ≤ visits.new }
     {
-        if let Some(step) = self.known_step(automaton, place, byte, visits) {
+        if let Some(step) = self.known_step(place, byte, visits) {
             return step;
         }
         self.leave(automaton, place, byte, visits)
@@ -306,7 +306,7 @@ impl Rows {
         let has_marks = marks > 0;
         let class = self.class_of[byte as usize] as usize;
         if self.list.is_empty() {
-            self.write(automaton, row, class, DEAD + marks);
+            self.write(row, class, DEAD + marks);
             return Step {
                 next: None,
                 has_marks,
@@ -315,7 +315,7 @@ impl Rows {
         let found = self.seek(automaton, visits);
         // If the rows were forgotten, the row that was left is another one now, or none.
         if found.is_kept {
-            self.write(automaton, row, class, found.place as u32 + FIRST + marks);
+            self.write(row, class, found.place as u32 + FIRST + marks);
         }
         Step {
             next: Some(found.place),
@@ -406,19 +406,19 @@ impl Rows {
     }
 
     /// Writes an entry of a row.
-    fn write(&mut self, automaton: &Nfa, row: usize, column: usize, entry: u32)
-        // The rows are right for the automaton, the row and the column are there, and the entry is right for them.
-        requires sound { IsSound automaton.now self.old }
+    fn write(&mut self, row: usize, column: usize, entry: u32)
+        // The row and the column are there.
         requires row { row < length self.old.starts.items }
         requires column { column ≤ self.old.class_count }
-        requires entry { IsEntry automaton.now self.old row column entry }
+        requires len { length self.old.entries.items
+            ≡ length self.old.starts.items * (self.old.class_count + 1) }
 
-        // The rows stay right, none is forgotten, and `ends` does not change.
-        ensures sound { IsSound automaton.now self.new }
+        // The rows stay right if the entry is. None is forgotten, and `ends` does not change.
+        ensures sound { (m : NfaValue) → IsSound m self.old → IsEntry m self.old row column entry
+            → IsSound m self.new }
         ensures kept { KeepsRows self.old self.new }
         ensures ends { self.new.ends ≡ self.old.ends }
     {
-        let _automaton = automaton;
         self.entries[row * (self.class_count + 1) + column] = entry;
     }
 

@@ -1,6 +1,6 @@
 //! Runs over texts.
 
-ghost use Rattle.std.specs.Prelude.{◌≡◌, ℕ, ◌+◌, ◌*◌, ◌<◌, ◌≤◌, ◌^◌, ◌⊎◌, ◌↔◌, ◌++◌, ◌∷◌, List, length, IsTrue, IfSome, None, MatchOption, MatchResult};
+ghost use Rattle.std.specs.Prelude.{◌≡◌, ℕ, ◌+◌, ◌*◌, ◌<◌, ◌≤◌, ◌⊎◌, ◌↔◌, ◌++◌, ◌∷◌, List, length, IsTrue, IfSome, None, MatchOption, MatchResult};
 ghost use Rattle.bit_sets.specs.Indexes.{has_index, index_capacity};
 ghost use Rattle.bit_sets.specs.StateSets.{state_capacity};
 ghost use Rattle.bit_sets.specs.Texts.{AllBytes};
@@ -142,7 +142,7 @@ impl Rows {
         let mut count = 0;
         let mut at = 0;
         for byte in text {
-            if let Some(next) = self.plain_next(automaton, place, *byte, visits) {
+            if let Some(next) = self.plain_next(place, *byte, visits) {
                 place = next;
             } else {
                 let slot = self.slot_of(place);
@@ -194,7 +194,7 @@ impl Rows {
         match self.read(automaton, text, visits) {
             Reached::Decided => true,
             Reached::Nothing => false,
-            Reached::Row(place) => match self.known_end(automaton, place, visits) {
+            Reached::Row(place) => match self.known_end(place, visits) {
                 Some(has_end) => has_end,
                 None => self.finish(automaton, place, visits),
             },
@@ -215,7 +215,7 @@ impl Rows {
         match self.read_known(automaton, text, visits)? {
             Reached::Decided => Some(true),
             Reached::Nothing => Some(false),
-            Reached::Row(place) => self.known_end(automaton, place, visits),
+            Reached::Row(place) => self.known_end(place, visits),
         }
     }
 
@@ -298,7 +298,7 @@ impl Rows {
             Reached::Nothing => return Some(false),
             Reached::Row(place) => place,
         };
-        let step = self.known_step(automaton, place, byte, visits)?;
+        let step = self.known_step(place, byte, visits)?;
         if step.has_marks {
             return Some(true);
         }
@@ -393,13 +393,14 @@ impl Rows {
             (λ left. visits.new ≤ visits.old + left.at) }
         ensures counted { visits.old ≤ visits.new }
     {
+        let _automaton = automaton;
         let mut place = place;
         let mut at = 0;
         for byte in text {
-            if let Some(next) = self.plain_next(automaton, place, *byte, visits) {
+            if let Some(next) = self.plain_next(place, *byte, visits) {
                 place = next;
             } else {
-                let Some(step) = self.known_step(automaton, place, *byte, visits) else {
+                let Some(step) = self.known_step(place, *byte, visits) else {
                     return Err(Left { at, place });
                 };
                 if step.has_marks {

@@ -2,7 +2,7 @@
 use Rattle.std.proofs.Common.{◌≡◌, ℕ, suc, ◌+◌, ◌-◌, ◌<◌, ◌≤◌, ◌||◌, Bool, true, false, true≢false, List, [], ◌∷◌, ◌++◌, length, slice_index, take, drop, IsTrue, refl, ap, sym, ◌∙◌, subst, arith, length-append}
 use Rattle.std.specs.Prelude.{◌↔◌, ◌==◌}
 use Rattle.std.proofs.lemmas.Bool.{cases_lt, eq-eqb, eqb-true, or_cases}
-use Rattle.std.proofs.lemmas.List.{get_or_append_left, take-append-le, length-drop, drop-append-le, take_all, take_more}
+use Rattle.std.proofs.lemmas.List.{get_or_append_left, take-append-le, length-drop, drop-append-le, take_all}
 use Rattle.std.proofs.Math.Logic.{⊎_elim}
 use Rattle.std.proofs.Math.Seq.{get_or-append_seam}
 use Rattle.bit_sets.specs.Numbers.{has_number}
@@ -117,19 +117,6 @@ list_last numbers list n P below has =
     past : (xs : List ℕ) (x : ℕ) (ys : List ℕ) → drop (length xs + 1) (xs ++ x ∷ ys) ≡ ys
     past [] x ys = refl
     past (z ∷ xs) x ys = ap (λ n. drop n (z ∷ (xs ++ x ∷ ys))) (let e : suc (length xs) + 1 ≡ suc (length xs + 1) = omega arith in e) ∙ past xs x ys
-
--- one index of a list more was put into a set
-pub put_more : (k x i : ℕ) (xs : List ℕ) (before now new : Bool) → i < length xs → x ≡ slice_index xs i → now ≡ (has_number k (take i xs) || before)
-    → new ≡ ((k == x) || now) → new ≡ (has_number k (take (i + 1) xs) || before)
-put_more k x i xs before now new lt is h put =
-    put ∙ ap (λ b. (k == x) || b) h ∙ swapped (k == x) (has_number k (take i xs)) before
-    ∙ ap (λ b. b || before) (sym (ap (has_number k) (take_more xs i 0 lt ∙ ap (λ u. take i xs ++ u ∷ []) (sym is)) ∙ listed_push k x (take i xs)))
-  where
-    swapped : (p q r : Bool) → (p || (q || r)) ≡ ((q || p) || r)
-    swapped true true r = refl
-    swapped true false r = refl
-    swapped false true r = refl
-    swapped false false r = refl
 
 -- the range of a list
 pub list_range : (numbers : List ℕ) (place : ℕ) → take (place + 1 + slice_index numbers place - (place + 1)) (drop (place + 1) numbers) ≡ list_at numbers place

@@ -1,9 +1,8 @@
 -- What is found by the automaton that is run for another.
-use Rattle.std.proofs.Common.{◌≡◌, ℕ, ◌<◌, ◌≤◌, List, [], ◌∷◌, ◌++◌, length, arith}
+use Rattle.std.proofs.Common.{◌≡◌, ℕ, ◌<◌, List, [], ◌∷◌, ◌++◌, length, arith}
 use Rattle.std.specs.Prelude.{◌↔◌}
 use Rattle.bit_sets.specs.Texts.{AllBytes}
 use Rattle.byte_nfa.specs.Live.{MatchesAfter}
-use Rattle.byte_nfa.specs.Runs.{size}
 use Rattle.byte_nfa.specs.Steps.{NfaValue, HasNumber, IsReached}
 use Rattle.byte_nfa.proofs.lemmas.Pass.{iff_trans}
 use Rattle.lazy_dfa.specs.inner.Rows.{FindsBy}
@@ -12,9 +11,6 @@ use Rattle.lazy_dfa.proofs.lemmas.After.{after_is}
 use Rattle.lazy_dfa.proofs.lemmas.Finding.{found_is}
 
 module _ (source run : NfaValue) (runs : RunsFor source run) where
-  pub fewer : size run ≤ size source
-  fewer = let len = runs.early.len in let states = runs.shares.states in omega (arith, len, states)
-
   -- what a text leads to
   pub found_for : (y : List ℕ) → AllBytes y → (k : ℕ) → FindsBy (half run) (IsReached run) y k ↔ IsReached source y k
   found_for y bytes k = iff_trans (found_is runs.sharing run runs.early y bytes k) (runs.shares.reached y k)

@@ -2,6 +2,7 @@
 
 ghost use Rattle.std.specs.Prelude.{◌≡◌, ℕ, ◌+◌, ◌*◌, ◌<◌, ◌≤◌, ◌⊎◌, ◌↔◌, [], IsTrue, IsFalse, IfSome, MatchOption, length};
 ghost use Rattle.bit_sets.specs.Indexes.{has_index, index_capacity};
+ghost use Rattle.byte_nfa.specs.Steps.{NfaValue};
 ghost use Rattle.lazy_dfa.specs.inner.Sources.{half};
 ghost use Rattle.lazy_dfa.specs.inner.Rows.{AcceptsRow, AddsFound, AddsMarks, HasTold, IsSound, IsAt, IsPlainStep, IsStep, IsToldStep, max_entries};
 
@@ -14,21 +15,14 @@ impl Rows {
     /// Returns the place of the row that a byte leads to from the row at a place, if that is known and the row has no marks. It
     /// is a visit.
     #[inline(always)]
-    pub fn plain_next(
-        &self,
-        automaton: &Nfa,
-        place: usize,
-        byte: u8,
-        visits: &mut Visits,
-    ) -> Option<usize>
-        requires sound { IsSound automaton.now self.now }
+    pub fn plain_next(&self, place: usize, byte: u8, visits: &mut Visits) -> Option<usize>
+        requires sound { (m : NfaValue) × IsSound m self.now }
         requires row { (i : ℕ) × IsAt self.now i place }
-        ensures next { (i : ℕ) → IsAt self.now i place
-            → IfSome result (IsPlainStep automaton.now self.now i byte) }
+        ensures next { (m : NfaValue) (i : ℕ) → IsSound m self.now → IsAt self.now i place
+            → IfSome result (IsPlainStep m self.now i byte) }
         ensures visits { MatchOption result (visits.new ≡ visits.old)
             (λ _. visits.new ≡ visits.old + 1) }
     {
-        let _automaton = automaton;
         let entry = entry_at(&self.entries, place, self.class_of[byte as usize] as usize);
         if entry >= FIRST && entry < MARKED {
             visits.tick();
@@ -113,21 +107,14 @@ impl Rows {
 
     /// Returns where a byte leads from the row at a place, if that is known, which is a visit.
     #[inline(always)]
-    pub fn known_step(
-        &self,
-        automaton: &Nfa,
-        place: usize,
-        byte: u8,
-        visits: &mut Visits,
-    ) -> Option<Step>
-        requires sound { IsSound automaton.now self.now }
+    pub fn known_step(&self, place: usize, byte: u8, visits: &mut Visits) -> Option<Step>
+        requires sound { (m : NfaValue) × IsSound m self.now }
         requires row { (i : ℕ) × IsAt self.now i place }
-        ensures step { (i : ℕ) → IsAt self.now i place
-            → IfSome result (λ step. IsStep automaton.now self.now i byte step self.now) }
+        ensures step { (m : NfaValue) (i : ℕ) → IsSound m self.now → IsAt self.now i place
+            → IfSome result (λ step. IsStep m self.now i byte step self.now) }
         ensures visits { MatchOption result (visits.new ≡ visits.old)
             (λ _. visits.new ≡ visits.old + 1) }
     {
-        let _automaton = automaton;
         let entry = entry_at(&self.entries, place, self.class_of[byte as usize] as usize);
         if entry == UNKNOWN {
             return None;
@@ -137,17 +124,15 @@ impl Rows {
     }
 
     /// Returns whether the row at a place leads to some end without a byte, if that is known, which is a visit.
-    pub fn known_end(&self, automaton: &Nfa, place: usize, visits: &mut Visits) -> Option<bool>
-        requires sound { IsSound automaton.now self.now }
+    pub fn known_end(&self, place: usize, visits: &mut Visits) -> Option<bool>
+        requires sound { (m : NfaValue) × IsSound m self.now }
         requires row { (i : ℕ) × IsAt self.now i place }
-        ensures some { (i : ℕ) → IsAt self.now i place
+        ensures some { (m : NfaValue) (i : ℕ) → IsSound m self.now → IsAt self.now i place
             → IfSome result (λ yes. IsTrue yes
-            ↔ ((k : ℕ) × (k < half automaton.now + half automaton.now)
-            × AcceptsRow automaton.now self.now i [] k)) }
+            ↔ ((k : ℕ) × (k < half m + half m) × AcceptsRow m self.now i [] k)) }
         ensures visits { MatchOption result (visits.new ≡ visits.old)
             (λ _. visits.new ≡ visits.old + 1) }
     {
-        let _automaton = automaton;
         let end = entry_at(&self.entries, place, self.class_count);
         if end == UNKNOWN {
             return None;
@@ -193,12 +178,9 @@ impl Rows {
     }
 
     /// Takes over the rows that another cache for the same automaton has, if there is room for all of them. It does not allocate.
-    pub fn take_over(&mut self, automaton: &Nfa, other: &Rows)
-        requires sound { IsSound automaton.now self.old }
-        requires other { IsSound automaton.now other.now }
-        ensures { IsSound automaton.now self.new }
+    pub fn take_over(&mut self, other: &Rows)
+        ensures { (m : NfaValue) → IsSound m self.old → IsSound m other.now → IsSound m self.new }
     {
-        let _automaton = automaton;
         if other.class_count != self.class_count
             || other.starts.len() > self.starts.capacity()
             || other.lists.len() > self.lists.capacity()

@@ -16,15 +16,21 @@ pub returns-then-step-clause-some : goal.returns-then-step-clause-some
 returns-then-step-clause-some c =
     let m = c.args.automaton.now in
     let (i, at, finds) = rw c.in-Row.is at c.in_ok-read_known.ensures.reached in
-    let step = c.in_ok-step.ensures.step i at in
+    let step = c.in_ok-step.ensures.step m i c.requires.sound at in
     marked_after (half m) (IsReached m) c.args.text.now (AcceptsRow m c.args.self.now i) finds c.args.byte (step.marks.0 c.if-step.true)
+
+pub is_live-requires-clause-row : goal.is_live-requires-clause-row
+is_live-requires-clause-row c =
+    let (i, at, finds) = rw c.in-Row.is at c.in_ok-read_known.ensures.reached in
+    let (j, there, goes) = rw c.in-Some.is at (c.in_ok-step.ensures.step c.args.automaton.now i c.requires.sound at).next in
+    (j, there)
 
 pub returns-in-Some-clause-some : goal.returns-in-Some-clause-some
 returns-in-Some-clause-some c =
     let m = c.args.automaton.now in
     let (source, early) = c.requires.early in
     let (i, at, finds) = rw c.in-Row.is at c.in_ok-read_known.ensures.reached in
-    let step = c.in_ok-step.ensures.step i at in
+    let step = c.in_ok-step.ensures.step m i c.requires.sound at in
     let (j, there, goes) = rw c.in-Some.is at step.next in
     iff_trans (c.is_live.ensures.some j there)
     (row_after (half m) (IsReached m) c.args.text.now (AcceptsRow m c.args.self.now i) finds c.args.byte (λ k low a. true≢false (sym (step.marks.1 (k, low, a)) ∙ c.if-step.false)) (AcceptsRow m c.args.self.now j) goes (λ y k (t, in', a). index_below source m early k t y a))
@@ -33,5 +39,5 @@ pub returns-in-None-clause-some : goal.returns-in-None-clause-some
 returns-in-None-clause-some c =
     let m = c.args.automaton.now in
     let (i, at, finds) = rw c.in-Row.is at c.in_ok-read_known.ensures.reached in
-    let step = c.in_ok-step.ensures.step i at in
+    let step = c.in_ok-step.ensures.step m i c.requires.sound at in
     dead_after (half m) (IsReached m) c.args.text.now (AcceptsRow m c.args.self.now i) finds c.args.byte (λ k low a. true≢false (sym (step.marks.1 (k, low, a)) ∙ c.if-step.false)) (rw c.in-None.is at step.next)

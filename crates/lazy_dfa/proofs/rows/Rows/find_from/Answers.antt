@@ -109,7 +109,7 @@ loop-byte-preserved c =
     let (j, there, runs) = inv.runs in
     elim c.match-plain_next.branch [
       | in-Some w ↦
-          let (quiet, (next, there', goes)) = rw w.in-Some.is at c.plain_next.ensures.next j there in
+          let (quiet, (next, there', goes)) = rw w.in-Some.is at c.plain_next.ensures.next m j c.requires.sound there in
           rw (w.found-is, w.place-is, w.told-is, w.count-is, w.visits-is) record {
             at = omega (arith, inv.at);
             room = inv.room;

@@ -35,8 +35,8 @@ pub returns-then-is_some-clause-ends : goal.returns-then-is_some-clause-ends
 returns-then-is_some-clause-ends c = λ i (lt, is).
     rw (sym (c.row_at-row.ensures i is)) (λ _ k lt. rw c.keep_ends.ensures.ends (c.read_row.ensures.ends k lt))
 
-pub write-requires-clause-entry : goal.write-requires-clause-entry
-write-requires-clause-entry c =
+pub returns-clause-sound : goal.returns-clause-sound
+returns-clause-sound c =
     let (i, (lt, is)) = c.requires.row in
     let here = row_there c.row_at-row.result i _ (c.row_at-row.ensures i is) lt in
     let m = c.args.automaton.now in
@@ -45,7 +45,7 @@ write-requires-clause-entry c =
     let row = c.row_at-row.result in
     let none = in_range 0 (h + h) (has_index c.read_row.new.self.ends) _ c.is_some.result c.is_some.ensures (rw c.index_count-half.ensures at c.next_below.ensures) in
     let kept = c.read_row.ensures.kept in
-    record {
+    c.write.ensures.sound m c.read_row.ensures.sound record {
       byte = λ b byte class. absurd (let short = (c.read_row.ensures.sound.classes b byte).0 in omega (arith, short, class, kept.class_count));
       end = λ _. record {
         none = λ _ k lt a. true≢false (sym (none.1 (k, omega arith, lt, (c.read_row.ensures.ends k lt).1 ((accepts_kept m rows c.read_row.new.self row [] k (kept.states row here)).1 a))) ∙ c.if-is_some.false);

@@ -15,7 +15,7 @@ pub returns-in-Some-clause-some : goal.returns-in-Some-clause-some
 returns-in-Some-clause-some c =
     let m = c.args.automaton.now in
     let (i, at, finds) = rw c.in-Row.is at c.read.ensures.reached in
-    iff_trans (rw c.in-Some.is at c.known_end.ensures.some i at) (row_end (half m) (IsReached m) c.args.text.now (AcceptsRow m c.read.new.self i) finds)
+    iff_trans (rw c.in-Some.is at c.known_end.ensures.some m i c.read.ensures.sound at) (row_end (half m) (IsReached m) c.args.text.now (AcceptsRow m c.read.new.self i) finds)
 
 pub returns-in-None-clause-some : goal.returns-in-None-clause-some
 returns-in-None-clause-some c =

@@ -15,4 +15,4 @@ pub returns-in-Row-clause-some : goal.returns-in-Row-clause-some
 returns-in-Row-clause-some c =
     let m = c.args.automaton.now in
     let (i, at, finds) = rw c.in-Row.is at c.in_ok-read_known.ensures.reached in
-    answer_same c.known_end.result (row_end (half m) (IsReached m) c.args.text.now (AcceptsRow m c.args.self.now i) finds) (c.known_end.ensures.some i at)
+    answer_same c.known_end.result (row_end (half m) (IsReached m) c.args.text.now (AcceptsRow m c.args.self.now i) finds) (c.known_end.ensures.some m i c.requires at)

@@ -15,8 +15,8 @@ keep_marks-marks-requires-clause-ends c =
     let (here, still) = row_there c.row_at-row.result i _ _ (c.row_at-row.ensures i is) lt c.read_row.ensures.kept.more in
     ends_kept c.args.automaton.now c.args.self.now c.read_row.new.self c.row_at-row.result c.read_row.new.self.ends c.read_row.ensures.kept here c.read_row.ensures.ends
 
-pub write-requires-clause-entry : goal.write-requires-clause-entry
-write-requires-clause-entry c =
+pub returns-then-is_empty-clause-sound : goal.returns-then-is_empty-clause-sound
+returns-then-is_empty-clause-sound c =
     let m = c.args.automaton.now in
     let old = c.args.self.now in
     let first = c.read_row.new.self in
@@ -29,13 +29,13 @@ write-requires-clause-entry c =
     let marks = marks_kept m first rows row n c.keep_marks-marks.ensures.kept still c.keep_marks-marks.ensures.marks in
     let zero = rw c.keep_marks-marks.ensures.list at (eqb-true _ 0 (sym c.is_empty.ensures ∙ c.if-is_empty.true)) in
     let none : length first.list.items ≡ 0 = omega (arith, zero, first.list.ok) in
-    entry_by m rows row c.args.byte 1 n c.keep_marks-marks.ensures.sound (omega arith) (omega arith) (omega arith) marks record {
+    c.write.ensures.sound m c.keep_marks-marks.ensures.sound (entry_by m rows row c.args.byte 1 n c.keep_marks-marks.ensures.sound (omega arith) (omega arith) (omega arith) marks record {
       dead = λ _ y k a. nothing_listed m first.list.items none y k ((c.read_row.ensures.steps y k).0 ((accepts_kept m old rows row (c.args.byte ∷ y) k (kept.states row here)).1 a));
       row = λ some. absurd (omega (arith, some));
-    }
+    })
 
-pub write-requires-then-found-clause-entry : goal.write-requires-then-found-clause-entry
-write-requires-then-found-clause-entry c =
+pub returns-then-found-clause-sound : goal.returns-then-found-clause-sound
+returns-then-found-clause-sound c =
     let m = c.args.automaton.now in
     let old = c.args.self.now in
     let first = c.read_row.new.self in
@@ -53,7 +53,7 @@ write-requires-then-found-clause-entry c =
     let back : next ≡ next + 2 - 2 = omega arith in
     let (j, at, states) = rw c.keep_marks-marks.ensures.list at c.seek-found.ensures.row in
     let within = place_within j 0 (length new.starts.items) new.class_count at.0 (omega arith) in
-    subst (λ l. IsEntry m new row (slice_index l c.args.byte) (next + 2 + n)) moved.class_of
+    c.write-then-found.ensures.sound m c.seek-found.ensures.sound (subst (λ l. IsEntry m new row (slice_index l c.args.byte) (next + 2 + n)) moved.class_of
     (entry_by m new row c.args.byte (next + 2) n c.seek-found.ensures.sound (omega arith) (omega arith) (omega (arith, within, at.1, c.seek-found.ensures.sound.len, c.seek-found.ensures.sound.small)) marks record {
       dead = λ is. absurd (omega (arith, is));
       row = λ some. subst (GoesTo m new row c.args.byte new) back (
@@ -61,7 +61,7 @@ write-requires-then-found-clause-entry c =
         at,
         λ y k. iff_trans (iff_sym (accepts_kept m old new row (c.args.byte ∷ y) k (kept.states row here))) (iff_trans (c.read_row.ensures.steps y k) (states y k)),
       );
-    })
+    }))
 
 pub returns-then-is_empty-clause-step : goal.returns-then-is_empty-clause-step
 returns-then-is_empty-clause-step c = λ i (lt, is).

@@ -45,7 +45,7 @@ returns-then-step-clause-reached c = λ i at z.
     let rest = drop (n + 1) text in
     let more : drop n text ≡ b ∷ rest = drop_more text n 0 lt in
     let (j, there, runs) = l.invariant.runs in
-    let step = rw c.in-Some-known_step.is at c.known_step.ensures.step j there in
+    let step = rw c.in-Some-known_step.is at c.known_step.ensures.step m j c.requires.sound there in
     let (k, low, a) = step.marks.0 c.if-step.true in
     (k, (rw more at runs i at z k).0 (low, inr ([], b ∷ rest ++ z, refl, a)))
 
@@ -61,7 +61,7 @@ returns-in_default-next-clause-reached c = λ i at z k found.
     let rest = drop (n + 1) text in
     let more : drop n text ≡ b ∷ rest = drop_more text n 0 lt in
     let (j, there, runs) = l.invariant.runs in
-    let step = rw c.in-Some-known_step.is at c.known_step.ensures.step j there in
+    let step = rw c.in-Some-known_step.is at c.known_step.ensures.step m j c.requires.sound there in
     let dead = rw c.in_default-next.is at step.next in
     let (low, a) = (at_dead (half m) (AcceptsRow m rows j) b dead (rest ++ z) k).0 ((rw more at runs i at z k).1 found) in
     true≢false (sym (step.marks.1 (k, low, a)) ∙ c.if-step.false)
@@ -81,7 +81,7 @@ loop-byte-preserved c =
     let (j, there, runs) = inv.runs in
     elim c.match-plain_next.branch [
       | in-Some w ↦
-          let (quiet, (next, there', goes)) = rw w.in-Some.is at c.plain_next.ensures.next j there in
+          let (quiet, (next, there', goes)) = rw w.in-Some.is at c.plain_next.ensures.next m j c.requires.sound there in
           rw (w.place-is, w.visits-is) record {
             at = omega (arith, inv.at);
             runs = (
@@ -93,7 +93,7 @@ loop-byte-preserved c =
             counted = omega (arith, w.in-Some.ensures.visits, inv.counted);
           }
       | in_default+in-Some-known_step+else-step+in-Some-next w ↦
-          let step = rw w.in-Some-known_step.is at w.known_step.ensures.step j there in
+          let step = rw w.in-Some-known_step.is at w.known_step.ensures.step m j c.requires.sound there in
           let (next, there', goes) = rw w.in-Some-next.is at step.next in
           rw (w.place-is, w.visits-is) record {
             at = omega (arith, inv.at);

@@ -3,9 +3,9 @@ use Rattle.lazy_dfa.proofs.lemmas.Rows.{same_sound}
 use Rattle.lazy_dfa.proofs.rows.Rows.take_over.Goals as goal
 
 pub returns : goal.returns
-returns c =
-    let room = c.requires.sound.room in
-    same_sound c.args.automaton.now c.args.other.now _ record {
+returns c = λ m sound other.
+    let room = sound.room in
+    same_sound m c.args.other.now _ record {
       starts = c.copy_within.ensures.items ∙ c.deref.ensures.value;
       lists = c.copy_within-2.ensures.items ∙ c.deref-2.ensures.value;
       class_of = refl;
@@ -21,4 +21,4 @@ returns c =
       starts = omega (arith, room.starts, c.copy_within.ensures.capacity);
       entries = omega (arith, room.entries, c.copy_within-3.ensures.capacity);
       width = room.width;
-    } c.requires.other
+    } other
