@@ -1,6 +1,6 @@
 //! The rule that decides about a path and the folders above it.
 
-ghost use Rattle.std.specs.Prelude.{◌≡◌, ◌<◌, ◌≤◌, ◌==◌, true, Bool, ℕ, List, None, Option, length, take, slice_index};
+ghost use Rattle.std.specs.Prelude.{◌≡◌, ◌<◌, ◌≤◌, ◌==◌, true, Bool, ℕ, List, None, Option, length, take, slice_index, if◌then◌else◌};
 ghost use Rattle.git_ignore.specs.TwoRules.{deciding, ignored_above};
 ghost use Rattle.git_ignore.specs.declared.decision.DecideBy.TheVariants.{Git, Nearest};
 

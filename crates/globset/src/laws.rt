@@ -1,6 +1,6 @@
 //! Laws of sets and builders, as contracts. Most of these functions have an empty body.
 
-ghost use Rattle.std.specs.Prelude.{◌≡◌, ◌∷◌, ◌++◌, [], IfOk, IsOkUnless, OnOk, OnErr};
+ghost use Rattle.std.specs.Prelude.{◌≡◌, ◌∷◌, ◌++◌, [], IfOk, IsOkUnless, OnOk, OnErr, if◌then◌else◌};
 ghost use Rattle.globset_glob.specs.Errors.{out_of_memory};
 ghost use Rattle.globset.specs.Laws.{AddKeeps, BelowEnds, BelowHasPaths, OneGlobSet, OrderRenames};
 ghost use Rattle.globset.specs.SetValue.{builder_globs};

@@ -1,6 +1,6 @@
 //! The part of a line that its pattern is read from, and bytes without their last.
 
-ghost use Rattle.std.specs.Prelude.{◌≡◌, ◌≤◌, ◌==◌, not, drop, length, true, false, IfNone, IfSome};
+ghost use Rattle.std.specs.Prelude.{◌≡◌, ◌≤◌, ◌==◌, not, drop, length, if◌then◌else◌, true, false, IfNone, IfSome};
 ghost use Rattle.std.specs.List.{prefix_len};
 ghost use Rattle.ignore_pattern.specs.Ends.{ends_with, without_last};
 ghost use Rattle.ignore_pattern.specs.Lines.{line_text, before_nul, without_spaces};
