@@ -9,7 +9,7 @@ ghost use Rattle.globset_c.specs.Statuses.{IsOneOf};
 use crate::ignored::decide_by;
 use crate::object::Object;
 use crate::owned::Owned;
-use crate::paths::are_ends;
+use crate::slices::are_ends;
 use crate::status::{BAD_ENDS, DONE, OUT_OF_MEMORY, Status, UNKNOWN_OPTION, WRONG_KIND};
 use git_ignore::{DecidingRule, IgnoreStack};
 use std::alloc::{AllocError, Global};
