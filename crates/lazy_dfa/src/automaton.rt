@@ -51,8 +51,8 @@ impl Model for LazyDfa {
 impl LazyDfa {
     /// Makes a deterministic automaton that finds what an automaton finds.
     ///
-    /// It reads each state, and allocates about as much as the automaton has. It also fails if twice the number of indexes does
-    /// not fit a `usize`.
+    /// It reads each state. It allocates about as much as the automaton has, a bit for each state and a number for each index. It
+    /// also fails if twice the number of indexes does not fit a `usize`.
     pub fn new(alloc: Global, automaton: &Nfa) -> Result<LazyDfa, AllocError>
         ensures { IfOk result (λ dfa. dfa.nfa ≡ automaton.now) }
     {

@@ -346,7 +346,7 @@ impl Rows {
         0
     }
 
-    /// Keeps the list of the indexes in `ends`, to which a row leads without a byte, if there is room for it.
+    /// Keeps the list of the indexes in `ends`, to which a row leads without a byte, if it is not kept yet and there is room.
     fn keep_ends(&mut self, automaton: &Nfa, row: usize)
         // The rows are right for the automaton, the row is one of them, and `ends` has its ends without a byte, at least one.
         requires sound { IsSound automaton.now self.old }
@@ -361,6 +361,11 @@ impl Rows {
         ensures ends { self.new.ends ≡ self.old.ends }
         ensures list { self.new.list ≡ self.old.list }
     {
+        let end = row * (self.class_count + 1) + self.class_count;
+        // Each byte that leaves a row with marks comes here.
+        if self.entries[end] != UNKNOWN {
+            return;
+        }
         let half = automaton.index_count() / 2;
         list_indexes(&self.ends, half + half, &mut self.told);
         let place = self.lists.len();
@@ -369,7 +374,7 @@ impl Rows {
         }
         push_within(&mut self.lists, self.told.len());
         extend_within(&mut self.lists, &self.told);
-        self.entries[row * (self.class_count + 1) + self.class_count] = place as u32 + FIRST;
+        self.entries[end] = place as u32 + FIRST;
     }
 
     /// Makes `list` what a row leads to by a byte, and `ends` what it leads to without one. It is at most one visit for each state.
