@@ -7,9 +7,9 @@ from concurrent.futures import ProcessPoolExecutor
 import globs as definitions
 import large
 import making
-from globs import DEFAULTS, Glob, Options, Rejected, glob_means, reading
+from globs import DEFAULTS, Glob, Options, glob_means
 from making import Source
-from related import related_globs
+from related import is_read, related_globs
 from relations import TooMany, missed
 from rows import Case, escaped, letters, unescaped
 
@@ -117,14 +117,6 @@ class File:
     def ask_match(self, glob, path):
         making.count_path(self.counts, path)
         self.ask("match", letters(glob.options), escaped(glob.text), escaped(path))
-
-
-def is_read(glob):
-    try:
-        reading(glob)
-    except Rejected:
-        return False
-    return True
 
 
 def ask_set(file, source, globs, paths):
