@@ -54,6 +54,11 @@ def ratio(baseline, globsift):
     return f"{globsift / baseline:.2f}"
 
 
+def quantile(sorted_values, part):
+    """The least value that is not below this part of the values, or None if there is none."""
+    return sorted_values[max(0, -int(-part * len(sorted_values) // 1) - 1)] if sorted_values else None
+
+
 def same_output(commands, limit, path):
     """The number of lines that both programs write, or None if one of them fails. The benchmark ends if they differ."""
     try:
