@@ -9,7 +9,6 @@ import sys
 HERE = os.path.dirname(os.path.abspath(__file__))
 TOP = os.path.dirname(os.path.dirname(HERE))
 OUT = os.path.join(HERE, "out")
-INSTALLED_CRATES = "/usr/share/cargo/registry"
 
 sys.dont_write_bytecode = True
 sys.path.append(os.path.join(TOP, "bench"))
@@ -86,7 +85,7 @@ class Release:
                 subprocess.run(["dpkg-deb", "--extract", self.archive(name), root], check=True)
             with open(stamp, "w") as file:
                 file.writelines(f"{name}\n" for name in names)
-        return root + INSTALLED_CRATES
+        return root + programs.INSTALLED_CRATES
 
     def programs(self, packages, root):
         """Unpacks packages that need no others than these."""
@@ -106,7 +105,7 @@ class Release:
         with open(self.stamp(packages)) as file:
             for name in file.read().split():
                 subprocess.run(["dpkg-deb", "--extract", self.archive(name), root], check=True)
-        return root + INSTALLED_CRATES
+        return root + programs.INSTALLED_CRATES
 
     def archive(self, name):
         """The file of a downloaded package."""
