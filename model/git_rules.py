@@ -292,3 +292,12 @@ def rule_below(files, path, is_folder, ignore_case):
         if found and not found[2]:
             return found
     return files_rule(files, path, is_folder, ignore_case)
+
+
+def nearest_rule(files, path, is_folder, ignore_case):
+    """Returns the rule that decides by the nearest decision: that of the path alone, or of the nearest folder above it with one."""
+    found = files_rule(files, path, is_folder, ignore_case)
+    while not found and b"/" in path:
+        path = path.rpartition(b"/")[0]
+        found = files_rule(files, path, True, ignore_case)
+    return found
