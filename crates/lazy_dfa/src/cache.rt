@@ -37,15 +37,16 @@ impl Model for Cache {
 impl Cache {
     /// Returns a cache with no rows.
     ///
-    /// It takes so many bytes, and more only where few states would fit: there is always room for a row. All memory is taken
-    /// here, and none by later calls. Returns an error if memory runs out, or if [`LazyDfa::may_have_rows`] returns `false`.
+    /// It takes so many bytes, and more only where the states of a row take most of them: there is always room for these, and a
+    /// quarter of the bytes for rows. All memory is taken here, and none by later calls. Returns an error if memory runs out, or
+    /// if [`LazyDfa::may_have_rows`] returns `false`.
     pub fn new(alloc: Global, dfa: &Arc<LazyDfa>, bytes: usize) -> Result<Cache, AllocError>
         ensures { IfOk result (λ cache. cache ≡ (arc_value dfa.now).nfa) }
     {
         if !fits_u32(dfa.automaton()) {
             return Err(AllocError);
         }
-        let rows = Rows::new(alloc, dfa.automaton(), bytes)?;
+        let rows = Rows::new(alloc, dfa.automaton(), dfa.indexes().len(), bytes)?;
         Ok(Cache {
             dfa: Arc::try_clone(dfa)?,
             rows: Box::new(alloc, rows)?,
@@ -59,7 +60,7 @@ impl Cache {
         ensures { IfOk result (λ cache. cache ≡ other.now) }
     {
         let dfa = &other.dfa;
-        let mut rows = Rows::new(alloc, dfa.automaton(), bytes)?;
+        let mut rows = Rows::new(alloc, dfa.automaton(), dfa.indexes().len(), bytes)?;
         rows.take_over(&other.rows);
         Ok(Cache {
             dfa: Arc::try_clone(dfa)?,

@@ -49,25 +49,28 @@ pub fn list_of(set: &StateSet, limit: usize, list: &mut Vec<u32>, visits: &mut V
     }
 }
 
-/// Makes `list` the list of the indexes below a bound that a set has. It allocates nothing if there is room for `limit` indexes.
-pub fn list_indexes(set: &IndexSet, limit: usize, list: &mut Vec<u32>)
-    // The indexes below the limit fit a `u32`, and the list has room for all of them.
+/// Makes `list` the list of the indexes below a bound that a set has, if there is room for them. Returns whether there is. It
+/// allocates nothing.
+pub fn list_indexes(set: &IndexSet, limit: usize, list: &mut Vec<u32>) -> bool
+    // The indexes below the limit fit a `u32`.
     requires fits { limit ≤ 4294967296 }
-    requires room { limit ≤ vec_capacity list.old }
 
-    // The list has exactly the indexes of the set below the limit. It is no longer than the limit, and loses no room.
-    ensures below { AreBelow limit list.new.items }
+    // If there is room, the list has exactly the indexes of the set below the limit. It is no longer than the limit.
+    ensures below { IsTrue result → AreBelow limit list.new.items }
     ensures few { length list.new.items ≤ limit }
-    ensures has { (k : ℕ)
+    ensures has { IsTrue result → (k : ℕ)
         → IsTrue (has_number k list.new.items) ↔ ((k < limit) × IsTrue (has_index set.now k)) }
-    ensures capacity { vec_capacity list.old ≤ vec_capacity list.new }
 {
     list.clear();
     let mut at = 0;
     while let Some(index) = set.next_below(at, limit) {
+        if list.len() == list.capacity() {
+            return false;
+        }
         push_within(list, index);
         at = index + 1;
     }
+    true
 }
 
 /// Appends a number to a vector that has room for it. It does not allocate.

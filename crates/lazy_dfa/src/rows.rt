@@ -117,8 +117,13 @@ pub struct Rows {
 }
 
 impl Rows {
-    /// Returns no rows, with room for all that fit `bytes` bytes, and at least for one.
-    pub fn new(alloc: Global, automaton: &Nfa, bytes: usize) -> Result<Rows, AllocError>
+    /// Returns no rows, with room for all that fit `bytes` bytes, and at least for one. So many indexes may be found.
+    pub fn new(
+        alloc: Global,
+        automaton: &Nfa,
+        found: usize,
+        bytes: usize,
+    ) -> Result<Rows, AllocError>
         requires { FitsU32 automaton.now }
         ensures { IfOk result (λ rows. IsSound automaton.now rows) }
     {
@@ -133,7 +138,9 @@ impl Rows {
         copy_within(&mut first, &list);
         let classes = ByteClasses::new(automaton);
         let width = classes.count + 1;
-        let taken = states.saturating_add(indexes).saturating_add(first.len());
+        // An index has two ends: where it is found, and where it is decided.
+        let told = found.saturating_mul(2);
+        let taken = states.saturating_add(told).saturating_add(first.len());
         let room = room_within(bytes, width, states, taken);
         let mut table = Vec::with_capacity(alloc, room.rows.saturating_mul(2))?;
         zeros_within(&mut table, FEWEST_PLACES.min(room.rows));
@@ -151,7 +158,7 @@ impl Rows {
             next: StateSet::new(alloc, states)?,
             ends: IndexSet::new(alloc, indexes)?,
             list,
-            told: Vec::with_capacity(alloc, indexes)?,
+            told: Vec::with_capacity(alloc, told)?,
         })
     }
 
@@ -367,7 +374,9 @@ impl Rows {
             return;
         }
         let half = automaton.index_count() / 2;
-        list_indexes(&self.ends, half + half, &mut self.told);
+        if !list_indexes(&self.ends, half + half, &mut self.told) {
+            return;
+        }
         let place = self.lists.len();
         if self.lists.capacity() - place <= self.told.len() || place >= MAX_PLACES {
             return;
@@ -486,21 +495,22 @@ impl Rows {
         None
     }
 
-    /// Makes room for a row. Returns whether no row was forgotten.
+    /// Makes room for a row of the states in `list`. Returns whether no row was forgotten.
     fn make_room(&mut self, automaton: &Nfa) -> bool
-        // The rows are right for the automaton and stay so, and there is room for another row afterwards.
-        requires { IsSound automaton.now self.old }
+        // The rows are right for the automaton and stay so, and there is room for the row afterwards.
+        requires sound { IsSound automaton.now self.old }
+        requires few { length self.old.list.items ≤ size automaton.now }
         ensures sound { IsSound automaton.now self.new }
-        ensures space { HasSpace automaton.now self.new }
+        ensures space { HasSpace self.new }
 
         // No row is forgotten if the result is `true`, and `list` and `ends` do not change.
         ensures kept { IsTrue result → KeepsRows self.old self.new }
         ensures list { self.new.list ≡ self.old.list }
         ensures ends { self.new.ends ≡ self.old.ends }
     {
-        let states = automaton.state_count();
+        let _automaton = automaton;
         let places = self.lists.capacity().min(MAX_PLACES);
-        if places.saturating_sub(self.lists.len()) > states
+        if places.saturating_sub(self.lists.len()) > self.list.len()
             && self.starts.len() < self.starts.capacity().min(MAX_ENTRIES)
             && self.entries.capacity().min(MAX_ENTRIES) - self.entries.len() > self.class_count
         {
@@ -519,7 +529,7 @@ impl Rows {
     fn add(&mut self, automaton: &Nfa, hash: u64) -> usize
         // The rows are right for the automaton, with room for one more. The list has states alone, at most as many as there are.
         requires sound { IsSound automaton.now self.old }
-        requires space { HasSpace automaton.now self.old }
+        requires space { HasSpace self.old }
         requires below { AreBelow (size automaton.now) self.old.list.items }
         requires few { length self.old.list.items ≤ size automaton.now }
 
@@ -551,9 +561,11 @@ fn room_within(bytes: usize, width: usize, states: usize, taken: usize) -> Room
     ensures listed { states < result.listed }
 {
     let number = mem::size_of::<u32>();
-    // At most one half is for lists, unless that is too small for the least room. The rest is for rows.
+    // At most one half is for lists, unless that is too small for the least room. The rest is for rows, and at least a quarter.
     let listed = (bytes / 2 / number).saturating_sub(taken).max(states + 1);
-    let rest = bytes.saturating_sub(listed.saturating_add(taken).saturating_mul(number));
+    let rest = bytes
+        .saturating_sub(listed.saturating_add(taken).saturating_mul(number))
+        .max(bytes / 4);
     // A row takes its entries, a number of `starts` and two places of the table.
     Room {
         rows: (rest / ((width + 3) * number)).max(1),

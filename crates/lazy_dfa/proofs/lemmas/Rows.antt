@@ -193,7 +193,6 @@ sets_sound m rows from next in_from in_next sound =
       first = room.first;
       ends = room.ends;
       list = room.list;
-      told = room.told;
       lists = room.lists;
       starts = room.starts;
       entries = room.entries;

@@ -130,7 +130,6 @@ pub record HasRoomFor (m : NfaValue) (rows : Rows) : Type 0 where
   pub first : IsFirst m rows.first.items
   pub ends : m.index_count ≤ index_capacity rows.ends
   pub list : size m ≤ vec_capacity rows.list
-  pub told : m.index_count ≤ vec_capacity rows.told
   pub lists : size m < vec_capacity rows.lists
   pub starts : 0 < vec_capacity rows.starts
   pub entries : rows.class_count < vec_capacity rows.entries
@@ -163,9 +162,9 @@ pub record KeepsRows (old new : Rows) : Type 0 where
   pub class_of : new.class_of ≡ old.class_of
   pub class_count : new.class_count ≡ old.class_count
 
--- there is room for another row, with any states
-pub record HasSpace (m : NfaValue) (rows : Rows) : Type 0 where
-  pub lists : length rows.lists.items + size m < vec_capacity rows.lists
+-- there is room for a row of the states in the list
+pub record HasSpace (rows : Rows) : Type 0 where
+  pub lists : length rows.lists.items + length rows.list.items < vec_capacity rows.lists
   pub places : length rows.lists.items < 4294967296
   pub starts : length rows.starts.items < vec_capacity rows.starts
   pub few : length rows.starts.items < max_entries

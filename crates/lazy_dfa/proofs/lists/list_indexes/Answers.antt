@@ -8,7 +8,6 @@ loop-index-init c = rw c.clear.ensures.items record {
   high = omega arith;
   few = omega arith;
   listed = listed_none (has_index c.args.set.now) c.args.limit;
-  capacity = omega arith;
 }
 
 pub loop-index-preserved : goal.loop-index-preserved
@@ -21,13 +20,12 @@ loop-index-preserved c =
       high = omega arith;
       few = omega (arith, inv.few, low, length-append list (index ∷ []));
       listed = listed_more (has_index c.args.set.now) c.args.limit index list high has (listed_past (has_index c.args.set.now) c.args.limit c.loop-index.at index list low between inv.listed);
-      capacity = omega (arith, c.push_within.ensures.capacity);
     }
 
 pub returns-clause-has : goal.returns-clause-has
-returns-clause-has c =
+returns-clause-has c = λ _.
     let inv = c.loop-index.invariant in
     (listed_past (has_index c.args.set.now) c.args.limit c.loop-index.at c.args.limit c.loop-index.list.items inv.high c.in_default.ensures inv.listed).has
 
 pub returns-clause-below : goal.returns-clause-below
-returns-clause-below c = c.loop-index.invariant.listed.below
+returns-clause-below c = λ _. c.loop-index.invariant.listed.below

@@ -1,5 +1,4 @@
 use Rattle.std.proofs.Common.{◌-◌, ◌≤◌, length}
-use Rattle.std.specs.Prelude.{vec_capacity}
 use Rattle.bit_sets.specs.Indexes.{has_index}
 use Rattle.lazy_dfa.proofs.lemmas.Lists.{IsReportedTo}
 use Rattle.lazy_dfa.proofs.lists.list_indexes.Given as goal
@@ -9,7 +8,6 @@ invariant-loop-index l = record {
   high : l.at ≤ l.limit;
   few : length l.list.items ≤ l.at;
   listed : IsReportedTo (has_index l.set) l.limit l.at l.list.items;
-  capacity : vec_capacity l.fn.list ≤ vec_capacity l.list;
 }
 
 abbrev pub decreases-loop-index : goal.decreases-loop-index

@@ -39,7 +39,6 @@ returns-clause-sound c =
       first = room.first;
       ends = room.ends;
       list = room.list;
-      told = room.told;
       lists = omega (arith, room.lists, c.push_within.ensures.capacity, c.extend_within.ensures.capacity);
       starts = omega (arith, room.starts, c.push_within-2.ensures.capacity);
       entries = omega (arith, room.entries, c.zeros_within.ensures.capacity);

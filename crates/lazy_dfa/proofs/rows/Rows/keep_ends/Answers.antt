@@ -26,8 +26,10 @@ returns-clause-sound c =
     let room = c.requires.sound.room in
     let list = c.list_indexes.new.list.items in
     let h = half m in
-    let listed = rw c.index_count-half.ensures at c.list_indexes.ensures.has in
-    let below = rw c.index_count-half.ensures at c.list_indexes.ensures.below in
+    let has = c.list_indexes.ensures.has c.if-not-list_indexes.false in
+    let few = c.list_indexes.ensures.below c.if-not-list_indexes.false in
+    let listed = rw c.index_count-half.ensures at has in
+    let below = rw c.index_count-half.ensures at few in
     let count : c.len-2.result ≡ length list = omega (arith, c.len-2.ensures, c.list_indexes.new.list.ok.0) in
     let place : c.len-place.result ≡ length rows.lists.items = omega (arith, c.len-place.ensures, rows.lists.ok.0) in
     listed_sound m rows _ c.args.row list record {
@@ -47,12 +49,26 @@ returns-clause-sound c =
       first = room.first;
       ends = room.ends;
       list = room.list;
-      told = omega (arith, room.told, c.list_indexes.ensures.capacity);
       lists = omega (arith, room.lists, c.push_within.ensures.capacity, c.extend_within.ensures.capacity);
       starts = room.starts;
       entries = room.entries;
       width = room.width;
     }
+
+pub returns-then-not-list_indexes-clause-sound : goal.returns-then-not-list_indexes-clause-sound
+returns-then-not-list_indexes-clause-sound c =
+    let room = c.requires.sound.room in
+    same_sound c.args.automaton.now c.args.self.now _ record { starts = refl; lists = refl; class_of = refl; class_count = refl } refl refl record {
+      from = room.from;
+      next = room.next;
+      first = room.first;
+      ends = room.ends;
+      list = room.list;
+      lists = room.lists;
+      starts = room.starts;
+      entries = room.entries;
+      width = room.width;
+    } c.requires.sound
 
 pub returns-then-capacity-place-clause-sound : goal.returns-then-capacity-place-clause-sound
 returns-then-capacity-place-clause-sound c =
@@ -63,7 +79,6 @@ returns-then-capacity-place-clause-sound c =
       first = room.first;
       ends = room.ends;
       list = room.list;
-      told = omega (arith, room.told, c.list_indexes.ensures.capacity);
       lists = room.lists;
       starts = room.starts;
       entries = room.entries;

@@ -26,7 +26,6 @@ returns c =
         };
         ends = omega (arith, c.index_count-indexes.ensures, c.in_ok-new-2.ensures.room);
         list = omega (arith, c.state_count-states.ensures, c.in_ok-list.ensures.capacity, c.list_of.ensures.capacity);
-        told = omega (arith, c.index_count-indexes.ensures, c.in_ok-with_capacity-4.ensures.capacity);
         lists = omega (arith, c.state_count-states.ensures, c.in_ok-with_capacity-2.ensures.capacity, c.room_within-room.ensures.listed);
         starts = omega (arith, c.in_ok-with_capacity.ensures.capacity, c.room_within-room.ensures.rows);
         entries = omega (arith, one, c.in_ok-with_capacity-3.ensures.capacity, c.saturating_mul-2.ensures);

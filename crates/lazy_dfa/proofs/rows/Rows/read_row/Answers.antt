@@ -23,7 +23,6 @@ returns-clause-sound c =
       first = room.first;
       ends = omega (arith, room.ends, c.read.ensures.ends_capacity);
       list = omega (arith, room.list, c.read.ensures.to_capacity);
-      told = room.told;
       lists = room.lists;
       starts = room.starts;
       entries = room.entries;

@@ -12,7 +12,6 @@ seek-requires-clause-sound c =
       first = room.first;
       ends = room.ends;
       list = omega (arith, room.list, c.list_of.ensures.capacity);
-      told = room.told;
       lists = room.lists;
       starts = room.starts;
       entries = room.entries;

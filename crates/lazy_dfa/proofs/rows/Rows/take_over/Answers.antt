@@ -16,7 +16,6 @@ returns c = λ m sound other.
       first = room.first;
       ends = room.ends;
       list = room.list;
-      told = room.told;
       lists = omega (arith, room.lists, c.copy_within-2.ensures.capacity);
       starts = omega (arith, room.starts, c.copy_within.ensures.capacity);
       entries = omega (arith, room.entries, c.copy_within-3.ensures.capacity);

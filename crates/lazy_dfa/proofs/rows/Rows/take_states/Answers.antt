@@ -24,7 +24,6 @@ returns-clause-sound c =
       first = room.first;
       ends = room.ends;
       list = room.list;
-      told = room.told;
       lists = room.lists;
       starts = room.starts;
       entries = room.entries;

@@ -11,7 +11,6 @@ returns-clause-sound c = λ m sound entry.
       first = room.first;
       ends = room.ends;
       list = room.list;
-      told = room.told;
       lists = room.lists;
       starts = room.starts;
       entries = room.entries;
