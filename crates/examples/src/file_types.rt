@@ -53,7 +53,7 @@ fn joined(alloc: Global, names: &[&str], indexes: &[usize]) -> Result<String, Al
 fn read_table(alloc: Global, file: &TextFile) -> Result<Labels<'_>, Fault> {
     let mut table = Labels::new(alloc);
     for (i, line) in file.lines(alloc)?.iter().enumerate() {
-        if !line.is_empty() && !line.starts_with('#') {
+        if !line.trim().is_empty() && !line.starts_with('#') {
             push_line(alloc, &mut table, file, i + 1, line)?;
         }
     }

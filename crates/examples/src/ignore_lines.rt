@@ -5,7 +5,7 @@ pub mod walk;
 
 use crate::command::{Command, Fault, only_name};
 use crate::streams::{print, push, read_input};
-use crate::text_file::{Lines, TextFile};
+use crate::text_file::{Lines, TextFile, without_dot};
 use std::process::ExitCode;
 use walk::Walk;
 
@@ -45,7 +45,7 @@ fn print_paths(rt: &HostRuntime, name: &str, ignore_case: bool) -> Result<ExitCo
     let input = read_input(rt)?;
     let mut output = Vec::new(rt.alloc());
     for path in Lines::new(&input, b'\n') {
-        let rule = walk.deciding_rule(path, false)?;
+        let rule = walk.deciding_rule(without_dot(path), false)?;
         if rule.is_none_or(|rule| rule.is_negated) {
             push(&mut output, &[path, b"\n"])?;
         }
@@ -84,7 +84,7 @@ fn print_lines(
     let mut output = Vec::new(rt.alloc());
     for given in Lines::new(&input, end) {
         let path = given.strip_suffix(b"/").unwrap_or(given);
-        match walk.deciding_rule(path, path.len() < given.len())? {
+        match walk.deciding_rule(without_dot(path), path.len() < given.len())? {
             Some(rule) => {
                 let number = rule.line.to_string(rt.alloc())?;
                 let (file, text) = walk.file_and_text(rule);

@@ -4,7 +4,7 @@ use crate::command::{Command, Fault, only_name};
 use crate::labels::Labels;
 use crate::owner_rule::OwnerRule;
 use crate::streams::{print, push, read_input};
-use crate::text_file::{Lines, TextFile};
+use crate::text_file::{Lines, TextFile, without_dot};
 use globset::Candidate;
 use std::alloc::Global;
 use std::process::ExitCode;
@@ -27,7 +27,8 @@ pub fn run(rt: &HostRuntime, arguments: &[String]) -> Result<ExitCode, Fault> {
     let input = read_input(rt)?;
     let mut output = Vec::new(rt.alloc());
     for path in Lines::new(&input, b'\n') {
-        let last = searcher.matches(&Candidate::from_bytes(path)).last();
+        let candidate = Candidate::from_bytes(without_dot(path));
+        let last = searcher.matches(&candidate).last();
         let owners = match last.and_then(|index| rules.labels.get(*index)) {
             Some(owners) if !owners.is_empty() => *owners,
             _ => "-",

@@ -28,9 +28,9 @@ impl TextFile {
         Ok(TextFile { name, bytes })
     }
 
-    /// Returns the directory in its name: empty, or with `/` at its end.
+    /// Returns the directory in its name: empty, or with `/` at its end. A `./` at the start does not count.
     pub fn folder(&self) -> &[u8] {
-        let name = self.name.as_bytes();
+        let name = without_dot(self.name.as_bytes());
         &name[..memrchr(b'/', name).map_or(0, |at| at + 1)]
     }
 
@@ -66,6 +66,11 @@ impl TextFile {
         let (text, reason) = (Shown(text), Shown(reason.as_bytes()));
         Err(Fault::Text(format!(in alloc; "{file}: line {number}: {text}: {reason}")?))
     }
+}
+
+/// Returns a path without `./` at its start, as `find .` writes it.
+pub fn without_dot(path: &[u8]) -> &[u8] {
+    path.strip_prefix(b"./").unwrap_or(path)
 }
 
 /// An iterator over lines without the byte that ends each. A rest after the last of these is a line too, unless it is empty.

@@ -67,8 +67,8 @@ impl GlobSetBuilder {
     /// bits for each state.
     ///
     /// The limit counts all memory of rows: their entries, their lists of states, and the table that finds them. A cache always
-    /// has room for a row, even if that passes its part of the limit. Except for such caches, the caches of a searcher take at
-    /// most 8 MiB together, under any limit.
+    /// has room for the states of a row, and a quarter of its bytes for rows, even if that passes its part of the limit. Except
+    /// for such caches, the caches of a searcher take at most 8 MiB together, under any limit.
     ///
     /// With 0 there are no rows, and the set keeps no memory between calls. That is best for few paths. Other memory has no
     /// limit: keys and states take memory linear in the texts of the globs.

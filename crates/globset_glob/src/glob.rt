@@ -156,7 +156,8 @@ impl Glob {
     /// between calls.
     ///
     /// The limit trades memory for time, and changes no answer. It counts all memory of rows: their entries, their lists of
-    /// states, and the table that finds them. A cache always has room for a row, even if that passes its quarter of the limit.
+    /// states, and the table that finds them. A cache always has room for the states of a row, and a quarter of its bytes for rows,
+    /// even if that passes its quarter of the limit.
     /// Under a limit of less than 16 KiB there are no rows. Each byte of a path then takes a step for each current state of the
     /// automaton, and calls without a searcher allocate for each path. A glob whose literals decide alone has no automaton under
     /// any limit. The limit of [`Glob::compile_matcher`] is [`DEFAULT_DFA_SIZE_LIMIT`].

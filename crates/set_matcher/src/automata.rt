@@ -403,8 +403,12 @@ impl AutomataBuilder {
             .state_count()
             .saturating_add(by_component.state_count())
             .saturating_add(extensions.state_count());
-        let by_path = Compiled::new(alloc, dfa_size_limit, by_path, states)?;
-        let by_component = Compiled::new(alloc, dfa_size_limit, by_component, states)?;
+        // All together they have the limit, and the automata that every path is read by have at least a 66th of it each.
+        let states = states.saturating_add(states / 32);
+        let for_path = states.min(by_path.state_count().saturating_mul(66));
+        let for_component = states.min(by_component.state_count().saturating_mul(66));
+        let by_path = Compiled::new(alloc, dfa_size_limit, by_path, for_path)?;
+        let by_component = Compiled::new(alloc, dfa_size_limit, by_component, for_component)?;
         let extensions = extensions.finish(alloc, dfa_size_limit, states)?;
         let max_states = by_path
             .state_count()

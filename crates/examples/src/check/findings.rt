@@ -96,8 +96,7 @@ impl<'a> Findings<'a> {
         Ok(self.lines.push((rule.number, line))?)
     }
 
-    /// Writes the findings to standard output, in the order of the lines that they are about. Returns the exit status 0 if there
-    /// are none, or else 1.
+    /// Writes the findings to standard output, in the order of their lines. Returns the exit status: 0 if there are none, or 1.
     pub fn write(&mut self, rt: &HostRuntime) -> Result<ExitCode, Fault> {
         self.lines.sort_by_key(|it| it.0)?;
         let mut output = Vec::new(rt.alloc());

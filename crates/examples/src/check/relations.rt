@@ -46,8 +46,7 @@ fn use_of(
     Ok(RuleReachability::Never(least(alloc, rules, rule, by)?))
 }
 
-/// Returns those of the rules `by`, which cover a rule together, that are needed. A search that reaches the limit leaves its rule
-/// among them.
+/// Returns those of the rules `by`, which cover a rule together, that are needed. A rule whose search reaches the limit stays.
 fn least(
     alloc: Global,
     rules: &Rules<'_>,
@@ -75,8 +74,7 @@ fn covers(alloc: Global, rules: &Rules<'_>, rule: usize, by: &[Glob]) -> Result<
     Ok(true)
 }
 
-/// Returns a shortest path that both of two rules match, or that there is none, or that the limit was reached before one was
-/// found.
+/// Returns a shortest path that both of two rules match, or that there is none, or that the limit was reached.
 pub fn common(alloc: Global, rules: &Rules<'_>, a: usize, b: usize) -> Result<Intersection, Error> {
     let mut found = Intersection::Disjoint;
     for first in rules.globs_of(a) {

@@ -20,8 +20,7 @@ pub struct Rules<'t> {
 }
 
 impl<'t> Rules<'t> {
-    /// Reads an owners file. Returns `None` if a pattern cannot be read; then the error of each such pattern was written to
-    /// standard error.
+    /// Reads an owners file. Returns `None` if patterns cannot be read, whose errors were then written to standard error.
     pub fn read(rt: &HostRuntime, file: &'t TextFile) -> Result<Option<Rules<'t>>, Fault> {
         let mut rules = Rules {
             lines: Vec::new(rt.alloc()),

@@ -44,36 +44,33 @@ impl Ignored {
         kind.is_file() || (kind.is_symlink() && self.stack.is_some())
     }
 
-    /// Goes to a directory, and reads its ignore files. `below` is the directory's path from the first directory on.
-    ///
-    /// Returns the error of a file that is there and cannot be read.
+    /// Goes to a directory, whose path from the first directory on is `below`, and reads its ignore files. Returns the path and the
+    /// error of a file that is there and cannot be read, of the last if there are two.
     pub fn enter(
         &mut self,
         rt: &HostRuntime,
         folder: &str,
         below: &str,
-    ) -> Result<Option<io::Error>, AllocError> {
+    ) -> Result<Option<(String, io::Error)>, AllocError> {
         let Some(stack) = &mut self.stack else {
             return Ok(None);
         };
         if let Some(name) = go_up(stack, below.as_bytes()).strip_suffix(b"/") {
             stack.enter(name)?;
         }
-        let names: &[&str] = if below.is_empty() {
-            &[".git/info/exclude", ".gitignore"]
-        } else {
-            &[".gitignore"]
-        };
-        for name in names {
+        let mut failed = None;
+        // Only the first directory has the first file.
+        let names = [".git/info/exclude", ".gitignore"];
+        for name in &names[usize::from(!below.is_empty())..] {
             let Some(path) = file_in(rt, folder, name)? else {
                 continue;
             };
             match fs::read(rt, path.as_str()) {
                 Ok(bytes) => stack.add_file(&bytes)?,
-                Err(error) => return Ok(Some(error)),
+                Err(error) => failed = Some((path, error)),
             }
         }
-        Ok(None)
+        Ok(failed)
     }
 
     /// Returns whether an entry of the current directory is ignored, or is named `.git`.

@@ -1,7 +1,4 @@
-//! The walk: the opened directories, and the order of the printed paths.
-//!
-//! There is no recursion: a vector has the pending paths. For each directory above the current place these are its later paths;
-//! printed paths are not among them.
+//! The walk: the opened directories, and the order of the printed paths. There is no recursion: a vector has the pending paths.
 //!
 //! Paths are in the order of their bytes, where the path of a directory ends in `/`: so `a.c` comes before the contents of `a`,
 //! since `.` is less than `/`.
@@ -118,8 +115,8 @@ impl Walk {
     fn open(&mut self, rt: &HostRuntime, folder: &str) -> Result<(), Fault> {
         self.opened = self.opened.saturating_add(1);
         let below = self.shown(folder);
-        if let Some(error) = self.ignored.enter(rt, folder, below)? {
-            self.report(rt, folder, error);
+        if let Some((path, error)) = self.ignored.enter(rt, folder, below)? {
+            self.report(rt, path.as_str(), error);
         }
         let first = self.pending.len();
         match fs::read_dir(rt, folder) {
@@ -159,10 +156,14 @@ impl Walk {
             }
         };
         let is_kept = !self.ignored.leaves_out(below, kind.is_dir())?;
-        if kind.is_dir() && can_match_below && is_kept {
-            self.pending.push(format!(in rt.alloc(); "{path}/")?)?;
-        } else if kind.is_dir() {
-            self.left_closed = self.left_closed.saturating_add(1);
+        if kind.is_dir() {
+            let folder = format!(in rt.alloc(); "{path}/")?;
+            let is_printed = is_match && self.ignored.is_repository(rt, folder.as_str())?;
+            if is_kept && (can_match_below || is_printed) {
+                self.pending.push(folder)?;
+            } else {
+                self.left_closed = self.left_closed.saturating_add(1);
+            }
         } else if is_match && is_kept && self.ignored.is_file(kind) {
             self.pending.push(String::from_str(rt.alloc(), path)?)?;
         }
