@@ -220,7 +220,7 @@ GLOBSET_CHECKED int globset_searcher_can_match_below(globset_searcher *searcher,
 /* Asks globset_searcher_is_match of `count` paths. `paths` has the bytes of all, one path behind another, and `length`
  * bytes in all. Path number i is the bytes from end_offsets[i - 1], and from 0 for the first, up to end_offsets[i],
  * without that one. GLOBSET_OK: answers[i] is 1 if some glob matches path number i, and else 0. GLOBSET_EOFFSETS and
- * GLOBSET_ENOMEM, and then no answer was written: the call takes a byte for each path, and gives it back. */
+ * GLOBSET_ENOMEM, and then no answer was written: the call takes a few bytes for each path, and gives them back. */
 GLOBSET_CHECKED int globset_searcher_is_match_many(globset_searcher *searcher, const char *paths, size_t length,
                                                    const size_t *end_offsets, size_t count, uint8_t *answers);
 
@@ -228,7 +228,7 @@ GLOBSET_CHECKED int globset_searcher_is_match_many(globset_searcher *searcher, c
  * has room for `size` numbers, and `index_count` is how many indexes there are. GLOBSET_OK: `indexes` has those of the
  * first path first; those of path number i are from index_ends[i - 1], and from 0 for the first, up to index_ends[i],
  * without that one. GLOBSET_EBUFFER: there is no room for so many, and `indexes` and `index_ends` are as they were.
- * GLOBSET_EOFFSETS and GLOBSET_ENOMEM, and then `index_count` is 0: the call takes 8 bytes for each path and each
+ * GLOBSET_EOFFSETS and GLOBSET_ENOMEM, and then `index_count` is 0: the call takes some bytes for each path and each
  * index, and gives them back. */
 GLOBSET_CHECKED int globset_searcher_find_many(globset_searcher *searcher, const char *paths, size_t length,
                                                const size_t *end_offsets, size_t count, size_t *index_ends,
@@ -415,8 +415,8 @@ GLOBSET_CHECKED int globset_ignore_is_ignored(globset_ignore *ignore, const char
 /* Decides about `count` paths, which are passed as to globset_searcher_is_match_many. A path that ends with `/` is of a
  * directory, and is decided about without that `/`. GLOBSET_OK: answers[i] is GLOBSET_IGNORED if a rule ignores path
  * number i, GLOBSET_KEPT if a rule keeps it, and GLOBSET_UNDECIDED if no rule decides. GLOBSET_EOPTIONS,
- * GLOBSET_EOFFSETS and GLOBSET_ENOMEM, and then no answer was written: the call takes a byte for each path, and gives it
- * back. Otherwise time and memory are those of globset_ignore_is_ignored. */
+ * GLOBSET_EOFFSETS and GLOBSET_ENOMEM, and then no answer was written: the call takes a few bytes for each path, and gives
+ * them back. Otherwise time and memory are those of globset_ignore_is_ignored. */
 GLOBSET_CHECKED int globset_ignore_decide_many(globset_ignore *ignore, const char *paths, size_t length,
                                                const size_t *end_offsets, size_t count, uint32_t by, uint8_t *answers);
 

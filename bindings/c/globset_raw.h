@@ -41,11 +41,11 @@
  *
  * What the library promises in every call: it reads and writes nothing else, it returns, it never ends the process, and
  * it keeps nothing of its arguments but what is said below. Running out of memory is the status GLOBSET_OUT_OF_MEMORY;
- * all objects then hold what they held before the call, but that a walk may have kept more memory for later calls, and
- * can be used on. The status GLOBSET_WRONG_KIND comes exactly if an object is of another kind than the call asks for,
- * and all objects are then as they were; where a call takes ends of paths, a domain or what decides, these are looked
- * at first. After any status but GLOBSET_DONE, GLOBSET_NO and GLOBSET_YES no new object was made, and each
- * result that has no sentence of its own is as it was.
+ * all objects then hold what they held before the call, but that a walk may have kept more memory for later calls and a
+ * searcher of many paths may have other indexes, and can be used on. The status GLOBSET_WRONG_KIND comes exactly if an
+ * object is of another kind than the call asks for, and all objects are then as they were; where a call takes ends of
+ * paths, a domain or what decides, these are looked at first. After any status but GLOBSET_DONE, GLOBSET_NO and
+ * GLOBSET_YES no new object was made, and each result that has no sentence of its own is as it was.
  */
 #ifndef GLOBSET_RAW_H
 #define GLOBSET_RAW_H
@@ -205,15 +205,17 @@ globset_status globset_raw_searcher_matches_all(globset_owned *searcher, const u
  * GLOBSET_WRONG_KIND: the object is no searcher, and is as it was. */
 globset_status globset_raw_searcher_find(globset_owned *searcher, const uint8_t *path, size_t path_len, size_t *count);
 
-/* Lends the indexes that the last globset_raw_searcher_find found, or none if there was no such call. It takes no
- * memory. GLOBSET_DONE: they may be read until the next call that the searcher is passed to, globset_raw_free too. The
- * caller writes nothing there. GLOBSET_WRONG_KIND: the object is no searcher, and `indexes` has the count 0. */
+/* Lends the indexes that the last globset_raw_searcher_find found, or the last globset_raw_searcher_matches_many of its
+ * last path, or none if there was no such call. It takes no memory. GLOBSET_DONE: they may be read until the next call
+ * that the searcher is passed to, globset_raw_free too. The caller writes nothing there. GLOBSET_WRONG_KIND: the object
+ * is no searcher, and `indexes` has the count 0. */
 globset_status globset_raw_searcher_found(globset_owned *searcher, globset_indexes *indexes);
 
 /* Asks globset_raw_searcher_is_match of many paths. Path number i is the bytes from ends[i - 1] (from 0 for the first) up
  * to ends[i], without that one. GLOBSET_DONE: answers[i] is 1 if some glob matches path number i, and else 0. Otherwise
- * no answer was written: GLOBSET_BAD_ENDS, GLOBSET_WRONG_KIND, GLOBSET_OUT_OF_MEMORY: the call takes a byte for each
- * path, and gives it back. Bytes after the last end belong to no path. */
+ * no answer was written: GLOBSET_BAD_ENDS, also if `answers` has not one number for each path; GLOBSET_WRONG_KIND;
+ * GLOBSET_OUT_OF_MEMORY: the call takes a few bytes for each path, and gives them back. Bytes after the last end belong to
+ * no path. */
 globset_status globset_raw_searcher_is_match_many(globset_owned *searcher, const uint8_t *paths, size_t paths_len,
                                                   const size_t *ends, size_t ends_len, uint8_t *answers,
                                                   size_t answers_len);
@@ -223,7 +225,7 @@ globset_status globset_raw_searcher_is_match_many(globset_owned *searcher, const
  * first path first, and the others are as they were; the indexes of path number i are those from index_ends[i - 1]
  * (from 0 for the first) up to index_ends[i], without that one. GLOBSET_TOO_SMALL: `*needed` is how many indexes there
  * are, and `room` and `index_ends` are as they were. GLOBSET_BAD_ENDS, also if `index_ends` has not one number for each
- * path; GLOBSET_WRONG_KIND; GLOBSET_OUT_OF_MEMORY: the call takes 8 bytes for each path and each index, and gives them
+ * path; GLOBSET_WRONG_KIND; GLOBSET_OUT_OF_MEMORY: the call takes some bytes for each path and each index, and gives them
  * back. After GLOBSET_BAD_ENDS and GLOBSET_WRONG_KIND the object is as it was. Otherwise the searcher has the indexes
  * of the last path, if there is one, in place of those that it found before. */
 globset_status globset_raw_searcher_matches_many(globset_owned *searcher, const uint8_t *paths, size_t paths_len,
@@ -304,7 +306,7 @@ globset_status globset_raw_ignore_decide(globset_owned *ignore, const uint8_t *p
  * path that ends with `/` is of a directory, and is decided about without that `/`. GLOBSET_DONE: answers[i] is 0 if no rule
  * decides about path number i, 1 if a rule ignores it, and 2 if a rule keeps it. Otherwise no answer was written:
  * GLOBSET_UNKNOWN_OPTION, which is looked at first, GLOBSET_BAD_ENDS, GLOBSET_WRONG_KIND, GLOBSET_OUT_OF_MEMORY: the call
- * takes a byte for each path, and gives it back. */
+ * takes a few bytes for each path, and gives them back. */
 globset_status globset_raw_ignore_decide_many(globset_owned *ignore, const uint8_t *paths, size_t paths_len,
                                               const size_t *ends, size_t ends_len, uint32_t by, uint8_t *answers,
                                               size_t answers_len);
@@ -312,7 +314,7 @@ globset_status globset_raw_ignore_decide_many(globset_owned *ignore, const uint8
 /* Finds the rules that decide about many paths, which are passed as to globset_raw_ignore_decide_many. GLOBSET_DONE:
  * rules[i] has the decision that globset_raw_ignore_decide_many writes of path number i, and the file and the line that
  * globset_raw_ignore_decide writes. Otherwise no rule was written: as at globset_raw_ignore_decide_many, but that the call
- * takes as many bytes as there are in `rules`. */
+ * takes a few times as many bytes as there are in `rules`. */
 globset_status globset_raw_ignore_rules_many(globset_owned *ignore, const uint8_t *paths, size_t paths_len,
                                              const size_t *ends, size_t ends_len, uint32_t by, globset_told_rule *rules,
                                              size_t rules_len);
