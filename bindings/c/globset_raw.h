@@ -41,11 +41,12 @@
  *
  * What the library promises in every call: it reads and writes nothing else, it returns, it never ends the process, and
  * it keeps nothing of its arguments but what is said below. Running out of memory is the status GLOBSET_OUT_OF_MEMORY;
- * all objects then hold what they held before the call, but that a walk may have kept more memory for later calls and a
- * searcher of many paths may have other indexes, and can be used on. The status GLOBSET_WRONG_KIND comes exactly if an
- * object is of another kind than the call asks for, and all objects are then as they were; where a call takes ends of
- * paths, a domain or what decides, these are looked at first. After any status but GLOBSET_DONE, GLOBSET_NO and
- * GLOBSET_YES no new object was made, and each result that has no sentence of its own is as it was.
+ * all objects then hold what they held before the call, but that a walk may have kept more memory for later calls and
+ * that a searcher which was asked for the indexes of many paths may have others, and can be used on. The status
+ * GLOBSET_WRONG_KIND comes exactly if an object is of another kind than the call asks for, and all objects are then as
+ * they were; where a call takes ends of paths, a domain or what decides, these are looked at first. After any status
+ * but GLOBSET_DONE, GLOBSET_NO and GLOBSET_YES no new object was made, and each result that has no sentence of its own
+ * is as it was.
  */
 #ifndef GLOBSET_RAW_H
 #define GLOBSET_RAW_H
