@@ -6,3 +6,4 @@ pub mod Summaries
 pub mod FirstWord
 pub mod IndexSets
 pub mod Filters
+pub mod Lists

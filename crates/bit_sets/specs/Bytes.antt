@@ -1,5 +1,5 @@
 -- Sets of bytes.
-use Rattle.std.specs.Prelude.{ℕ, ◌<◌, Bool, not, true, false, [], IsTrue}
+use Rattle.std.specs.Prelude.{ℕ, ◌<◌, Bool, not, true, false, List, [], slice_index_or, IsTrue}
 use Rattle.bit_sets.specs.Bits.{bit_of}
 use Rattle.bit_sets.specs.declared.byte_set.ByteSet.{ByteSet}
 
@@ -10,6 +10,10 @@ has_byte set c = bit_of set.words c
 -- the set of no byte
 abbrev pub no_bytes : ByteSet
 no_bytes = record { words = [] }
+
+-- the set with the number n; past the last it has no byte
+abbrev pub set_at : List ByteSet → ℕ → ByteSet
+set_at sets n = slice_index_or sets n no_bytes
 
 -- the set has every byte
 abbrev pub HasEvery : ByteSet → Type 0

@@ -1,5 +1,5 @@
 -- Sets of indexes.
-use Rattle.std.specs.Prelude.{ℕ, ◌*◌, ◌<◌, ◌⊎◌, ◌++◌, ◌↔◌, Bool, List, length, IsTrue, Contains}
+use Rattle.std.specs.Prelude.{ℕ, ◌*◌, ◌<◌, ◌⊎◌, ◌++◌, ◌↔◌, Bool, List, length, slice_index, IsTrue, Contains}
 use Rattle.bit_sets.specs.Bits.{bit_of}
 use Rattle.bit_sets.specs.declared.index_set.IndexSet.{IndexSet}
 
@@ -18,3 +18,7 @@ index_capacity set = 64 * length (words_of set)
 -- the new set has the old set's members, and those of the indexes that the old set has room for
 abbrev pub HasAlso : IndexSet → IndexSet → List ℕ → Type 0
 HasAlso old new indexes = (k : ℕ) → IsTrue (has_index new k) ↔ ((Contains indexes k × (k < index_capacity old)) ⊎ IsTrue (has_index old k))
+
+-- the first `count` indexes of the list are in the set
+abbrev pub AreFound : List ℕ → ℕ → IndexSet → Type 0
+AreFound indexes count found = (j : ℕ) → j < count → j < length indexes → IsTrue (has_index found (slice_index indexes j))

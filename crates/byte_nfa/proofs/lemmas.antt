@@ -7,7 +7,10 @@ pub mod Equivalent
 pub mod Accepting
 pub mod Live
 pub mod LastBytes
-pub mod Loops
-pub mod Lists
-pub mod Chunks
-pub mod Known
+pub mod Classes
+pub mod Told
+pub mod Finding
+pub mod After
+pub mod Running
+pub mod Stepping
+pub mod Listing

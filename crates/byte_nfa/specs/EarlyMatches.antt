@@ -1,5 +1,5 @@
 -- States that decide an index: with any bytes after it, the text leads to an end of the index, and to no other end.
-use Rattle.std.specs.Prelude.{◌≡◌, ℕ, ◌+◌, ◌*◌, ◌<◌, ◌⊎◌, List, [], ◌∷◌, length}
+use Rattle.std.specs.Prelude.{◌≡◌, ℕ, ◌+◌, ◌*◌, ◌/◌, ◌<◌, ◌⊎◌, List, [], ◌∷◌, ◌++◌, length}
 use Rattle.bit_sets.specs.declared.byte_set.ByteSet.{ByteSet}
 use Rattle.bit_sets.specs.Bytes.{HasEvery}
 use Rattle.byte_nfa.specs.Steps.{State, loop_state, match_state, state, NfaValue}
@@ -22,3 +22,11 @@ pub record EndsAtEarlyMatches (old new : NfaValue) : Type 0 where
   pub len : length new.states ≡ length old.states
   pub starts : new.starts ≡ old.starts
   pub index_count : new.index_count ≡ old.index_count * 2
+
+-- ends of an index k + half say that k is decided where they are reached
+abbrev pub half : NfaValue → ℕ
+half m = m.index_count / 2
+
+-- a text leads to an end of the index k, or its beginning to the end that says that k is decided
+abbrev pub FindsBy : ℕ → (List ℕ → ℕ → Type 0) → List ℕ → ℕ → Type 0
+FindsBy n P y k = (k < n) × (P y k ⊎ ((p : List ℕ) × (q : List ℕ) × (y ≡ p ++ q) × P p (n + k)))

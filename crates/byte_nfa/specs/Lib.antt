@@ -6,4 +6,6 @@ pub mod Live
 pub mod Equivalent
 pub mod EarlyMatches
 pub mod Sharing
+pub mod SimulationValue
+pub mod Sets
 pub mod inner

@@ -1,6 +1,7 @@
 -- The texts that a set of states accepts.
 use Rattle.std.specs.Prelude.{ℕ, ◌+◌, ◌*◌, ◌<◌, ◌↔◌, List, [], ◌∷◌, ◌++◌, length, IsTrue}
 use Rattle.bit_sets.specs.Bytes.{has_byte}
+use Rattle.bit_sets.specs.Numbers.{has_number}
 use Rattle.bit_sets.specs.StateSets.{has_state}
 use Rattle.byte_nfa.specs.Steps.{Accepts, NfaValue, IsReached}
 use Rattle.bit_sets.specs.declared.byte_set.ByteSet.{ByteSet}
@@ -26,3 +27,7 @@ AreAccepting m set = (s : ℕ) → s < size m → IsTrue (has_state set s) ↔ (
 -- the set has the last byte of each text that leads to an end
 abbrev pub HasLastBytes : NfaValue → ByteSet → Type 0
 HasLastBytes m set = (y : List ℕ) (b k : ℕ) → IsReached m (y ++ b ∷ []) k → IsTrue (has_byte set b)
+
+-- from some state of a list the text leads to an end of the index k
+abbrev pub AcceptsIn : NfaValue → List ℕ → List ℕ → ℕ → Type 0
+AcceptsIn m list y k = (t : ℕ) × IsTrue (has_number t list) × Accepts m.states k t y

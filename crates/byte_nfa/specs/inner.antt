@@ -1,6 +1,7 @@
 pub mod Views
 pub mod Pass
 pub mod Exits
-pub mod Lists
-pub mod Chunks
-pub mod Known
+pub mod Classes
+pub mod Sources
+pub mod Told
+pub mod Stepping

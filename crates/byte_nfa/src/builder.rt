@@ -7,10 +7,9 @@ ghost use Rattle.byte_nfa.specs.Building.{Pushes};
 ghost use Rattle.byte_nfa.specs.Runs.{size};
 ghost use Rattle.byte_nfa.specs.inner.Views.{AreSound, nfa};
 
-use crate::byte_sets::ByteSets;
 use crate::nfa::Nfa;
 use crate::state::State;
-use bit_sets::ByteSet;
+use bit_sets::{ByteSet, ByteSets};
 use std::alloc::{AllocError, Global};
 use std::marker::Model;
 

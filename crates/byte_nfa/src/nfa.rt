@@ -24,7 +24,7 @@ use std::marker::Model;
 /// A nondeterministic automaton: states over bytes, and the starts among them.
 ///
 /// Its calls are for code that makes something from it, such as a deterministic automaton. They read states and do not count
-/// their reads. The crate `lazy_dfa` runs it, and counts each read of a state.
+/// their reads. What runs it counts each read of a state.
 #[derive(Drop)]
 pub struct Nfa {
     states: Vec<State>,
@@ -243,7 +243,7 @@ impl Nfa {
             return Ok(None);
         };
         let alloc = *self.states.allocator();
-        let mut states = Vec::new(alloc);
+        let mut states = Vec::with_capacity(alloc, self.states.len())?;
         for s in 0..self.states.len() {
             let state = match self.early_match(s, &states) {
                 Some(index) => State::Match(self.index_count + index),
@@ -348,9 +348,15 @@ impl Nfa {
         })
     }
 
-    /// Returns a state as it is stored, or `None` if no state has this number.
-    pub(crate) fn stored(&self, s: usize) -> Option<State> {
-        self.states.get(s).copied()
+    /// Returns by what states can be ordered: by their kind, then by the number of their set of bytes or by their index, and then by
+    /// their next state. Returns `None` if no state has this number.
+    pub fn order_of(&self, s: usize) -> Option<(u8, usize, usize)> {
+        match self.states.get(s)? {
+            State::Bytes(set, next) => Some((0, *set as usize, *next)),
+            State::Union(at) => Some((1, *at, 0)),
+            State::Loop(set, exit) => Some((2, *set as usize, *exit)),
+            State::Match(index) => Some((3, *index, 0)),
+        }
     }
 
     /// Returns the state that a state goes on to by a byte, or `None` if there is none.

@@ -1,13 +1,13 @@
 //! States, as an automaton keeps them.
 
 ghost use Rattle.std.specs.Prelude.{◌≡◌, ℕ, ◌+◌, ◌<◌, ◌≤◌, ◌||◌, ◌↔◌, ◌==◌, List, length, slice_index, false, Some, IsTrue, IfSome, MatchOption};
-ghost use Rattle.bit_sets.specs.Bytes.{has_byte};
+ghost use Rattle.bit_sets.specs.Bytes.{has_byte, set_at};
 ghost use Rattle.bit_sets.specs.StateSets.{has_state, state_capacity};
 ghost use Rattle.bit_sets.specs.declared.byte_set.ByteSet.{ByteSet};
 ghost use Rattle.byte_nfa.specs.Equivalent.{HasAlsoBoundaries};
 ghost use Rattle.bit_sets.specs.Numbers.{AreBelow, has_number};
 ghost use Rattle.byte_nfa.specs.inner.Exits.{TellsExit};
-ghost use Rattle.byte_nfa.specs.inner.Views.{set_at, exits_at, of_state, IsHeld, GoesBelow};
+ghost use Rattle.byte_nfa.specs.inner.Views.{exits_at, of_state, IsHeld, GoesBelow};
 ghost use Rattle.byte_nfa.specs.inner.Pass.{goes_now, goes_next, TellsEnd, EndsBy, LeadsBy};
 
 use bit_sets::{ByteSet, StateSet, Visits};
@@ -17,9 +17,7 @@ use bit_sets::{ByteSet, StateSet, Visits};
 ///
 /// States are numbered in the order of their pushes, and a state's next states were there before it. So numbers go down along
 /// each step.
-///
-/// They are ordered by their kind, then by the number of their set or by their index, and then by their next state.
-#[derive(Clone, Copy, PartialEq, Eq, PartialOrd, Ord)]
+#[derive(Clone, Copy)]
 pub enum State {
     /// Reads a byte of the set and goes on.
     Bytes(u32, usize),

@@ -5,7 +5,7 @@ ghost use Rattle.git_ignore.specs.RulesValue.{FitsAsBefore, FitsRules};
 
 use crate::rules::Rules;
 use bit_sets::IndexSet;
-use lazy_dfa::StateSets;
+use byte_nfa::StateSets;
 use std::alloc::{AllocError, Global};
 use std::marker::Model;
 
@@ -29,7 +29,7 @@ pub struct IgnoreScratch {
 impl Model for IgnoreScratch {
     ghost use Rattle.std.specs.Prelude.{◌≤◌, ◌+◌};
     ghost use Rattle.bit_sets.specs.Indexes.{index_capacity};
-    ghost use Rattle.lazy_dfa.specs.Sets.{sets_capacity};
+    ghost use Rattle.byte_nfa.specs.Sets.{sets_capacity};
     ghost use Rattle.git_ignore.specs.RulesValue.{ScratchValue};
 
     ghost Value = { ScratchValue };

@@ -2,3 +2,6 @@
 pub mod Found
 pub mod Numbers
 pub mod Source
+pub mod Lists
+pub mod Chunks
+pub mod Known

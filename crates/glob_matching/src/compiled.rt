@@ -4,14 +4,15 @@ ghost use Rattle.std.specs.Prelude.{◌≡◌, ℕ, ◌+◌, ◌*◌, ◌≤◌,
 ghost use Rattle.byte_nfa.specs.Runs.{size, max_reads};
 ghost use Rattle.byte_nfa.specs.Steps.{IsReached};
 ghost use Rattle.bit_sets.specs.Indexes.{index_capacity};
-ghost use Rattle.lazy_dfa.specs.Sets.{sets_capacity};
+ghost use Rattle.byte_nfa.specs.Sets.{sets_capacity};
 ghost use Rattle.glob_strategy.specs.IndexedTokens.{IndexedTokens, IsFor, SomeMeanAfter};
 ghost use Rattle.glob_matching.specs.Matching.{AddsMatches, AddsReached, TellsMatch};
 
 use crate::rows::RowSource;
+use crate::sharing::shared;
 use bit_sets::{ByteSet, IndexSet, Visits};
-use byte_nfa::Nfa;
-use lazy_dfa::{Cache, LazyDfa, StateSets};
+use byte_nfa::{Nfa, Simulation, StateSets};
+use lazy_dfa::Cache;
 use std::alloc::{AllocError, Global};
 use std::marker::Model;
 use std::snapshot::Snapshot;
@@ -25,7 +26,7 @@ pub const DEFAULT_DFA_SIZE_LIMIT: usize = 1 << 24;
 #[derive(Drop)]
 pub struct Compiled {
     source: Source,
-    dfa: Arc<LazyDfa>,
+    simulation: Arc<Simulation>,
     rows: Option<RowSource>,
 }
 
@@ -38,7 +39,7 @@ impl Model for Compiled {
 
     ghost view = { λ c. c.source };
 
-    ghost invariant = { λ c. ((arc_value c.dfa).nfa ≡ c.source) × IfSome c.rows (λ r. r ≡ c.source) };
+    ghost invariant = { λ c. ((arc_value c.simulation).nfa ≡ c.source) × IfSome c.rows (λ r. r ≡ c.source) };
 }
 
 impl Compiled {
@@ -55,9 +56,13 @@ impl Compiled {
         ensures { IfOk result (λ c. c ≡ automaton) }
     {
         let source = Source::of(&automaton)?;
-        let dfa = Arc::new(alloc, LazyDfa::new(alloc, &automaton)?)?;
-        let rows = RowSource::new(alloc, dfa_size_limit, &automaton, &dfa, all_states)?;
-        Ok(Compiled { source, dfa, rows })
+        let simulation = Arc::new(alloc, simulation_of(alloc, &automaton)?)?;
+        let rows = RowSource::new(alloc, dfa_size_limit, &automaton, &simulation, all_states)?;
+        Ok(Compiled {
+            source,
+            simulation,
+            rows,
+        })
     }
 
     /// Returns whether there is room for rows.
@@ -107,7 +112,7 @@ impl Compiled {
         ensures none_without_starts { visits.new ≤ visits.old + length self.now.starts }
         ensures counted { visits.old ≤ visits.new }
     {
-        if !self.dfa.has_starts() {
+        if !self.simulation.has_starts() {
             return true;
         }
         self.source.rejects_last_byte(text, visits)
@@ -164,7 +169,7 @@ impl Compiled {
                 return Ok(());
             }
         }
-        self.dfa.find(text, sets, found, visits)
+        self.simulation.find(text, sets, found, visits)
     }
 
     /// Returns whether tokens match a text.
@@ -201,7 +206,7 @@ impl Compiled {
                 return Ok(is_match);
             }
         }
-        self.dfa.is_match(text, sets, visits)
+        self.simulation.is_match(text, sets, visits)
     }
 
     /// Returns whether some tokens match a text that begins with `text` and then `byte`.
@@ -231,7 +236,7 @@ impl Compiled {
         ensures visits { visits.new ≤ visits.old + (length text.now + 2) * max_reads self.now }
         ensures counted { visits.old ≤ visits.new }
     {
-        if !self.dfa.has_starts() {
+        if !self.simulation.has_starts() {
             return Ok(false);
         }
         if let Some(cache) = cache {
@@ -243,8 +248,22 @@ impl Compiled {
                 return Ok(can_match);
             }
         }
-        self.dfa.can_match_after(text, byte, sets, visits)
+        self.simulation.can_match_after(text, byte, sets, visits)
     }
+}
+
+/// Returns what runs an automaton. Texts that begin alike share states in it, if there is more than one start and that is not more
+/// states.
+fn simulation_of(alloc: Global, automaton: &Nfa) -> Result<Simulation, AllocError>
+    ensures { IfOk result (λ simulation. simulation.nfa ≡ automaton.now) }
+{
+    // Only texts from two starts may begin alike.
+    let sharing = if automaton.starts().len() > 1 {
+        shared(alloc, automaton)?
+    } else {
+        None
+    };
+    Simulation::new(alloc, automaton, sharing)
 }
 
 /// The number of states of an automaton, and the last bytes of texts that lead to an end. Contracts see the automaton.
@@ -257,7 +276,6 @@ pub struct Source {
 }
 
 impl Model for Source {
-    ghost use Rattle.byte_nfa.specs.Steps.{NfaValue};
     ghost use Rattle.glob_matching.specs.inner.Source.{IsSource};
 
     ghost Value = { NfaValue };

@@ -9,6 +9,7 @@ mod kept;
 mod pool;
 mod rows;
 mod scratch;
+mod sharing;
 
 pub use compiled::{Compiled, DEFAULT_DFA_SIZE_LIMIT};
 pub use scratch::{NeedsScratch, Scratch};

@@ -11,8 +11,8 @@ ghost use Rattle.glob_matching.specs.inner.Found.{AddsSome};
 
 use crate::kept::{Kept, KeptCaches, MOST_KEPT};
 use bit_sets::{IndexSet, Visits};
-use byte_nfa::Nfa;
-use lazy_dfa::{Cache, LazyDfa};
+use byte_nfa::{Nfa, Simulation};
+use lazy_dfa::Cache;
 use std::alloc::{AllocError, Global};
 use std::marker::Model;
 use std::snapshot::Snapshot;
@@ -23,7 +23,7 @@ use std::sync::Arc;
 #[derive(Drop)]
 pub struct RowSource {
     alloc: Global,
-    dfa: Arc<LazyDfa>,
+    simulation: Arc<Simulation>,
     /// How many bytes the rows of a cache take at most.
     cache_bytes: usize,
     /// In a box, since the pool has room between its places, and a set may have many automata.
@@ -40,7 +40,7 @@ impl Model for RowSource {
 
     ghost view = { λ r. r.source.value };
 
-    ghost invariant = { λ r. ((arc_value r.dfa).nfa ≡ r.source.value) × (r.kept.value ≡ r.source.value) };
+    ghost invariant = { λ r. ((arc_value r.simulation).nfa ≡ r.source.value) × (r.kept.value ≡ r.source.value) };
 }
 
 impl RowSource {
@@ -53,10 +53,10 @@ impl RowSource {
         alloc: Global,
         dfa_size_limit: usize,
         automaton: &Nfa,
-        dfa: &Arc<LazyDfa>,
+        simulation: &Arc<Simulation>,
         all_states: usize,
     ) -> Result<Option<RowSource>, AllocError>
-        requires { (arc_value dfa.now).nfa ≡ automaton.now }
+        requires { (arc_value simulation.now).nfa ≡ automaton.now }
         ensures { IfOk result (λ made. IfSome made (λ rows. rows ≡ automaton.now)) }
     {
         let cache_bytes = share_of(
@@ -64,12 +64,12 @@ impl RowSource {
             automaton.state_count(),
             all_states,
         );
-        if cache_bytes < FEWEST_BYTES || !dfa.may_have_rows() {
+        if cache_bytes < FEWEST_BYTES || !simulation.may_have_rows() {
             return Ok(None);
         }
         Ok(Some(RowSource {
             alloc,
-            dfa: Arc::try_clone(dfa)?,
+            simulation: Arc::try_clone(simulation)?,
             cache_bytes,
             kept: Box::new(alloc, KeptCaches::new(automaton, cache_bytes))?,
             source: Snapshot::of(automaton),
@@ -80,7 +80,7 @@ impl RowSource {
     pub fn new_cache(&self, alloc: Global) -> Result<Cache, AllocError>
         ensures { IfOk result (λ cache. cache ≡ self.now) }
     {
-        Cache::new(alloc, &self.dfa, self.cache_bytes)
+        Cache::new(alloc, &self.simulation, self.cache_bytes)
     }
 
     /// Returns how many bytes the caches take that are kept between calls.
@@ -135,7 +135,7 @@ impl RowSource {
     {
         let cache = match self.kept.published() {
             Some(known) => Cache::with_rows_of(self.alloc, known, bytes)?,
-            None => Cache::new(self.alloc, &self.dfa, bytes)?,
+            None => Cache::new(self.alloc, &self.simulation, bytes)?,
         };
         Ok(Kept::new(cache, bytes))
     }

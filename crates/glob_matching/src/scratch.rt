@@ -6,7 +6,7 @@ ghost use Rattle.glob_matching.specs.ScratchValue.{FitsAsBefore, HasCapacity, ra
 
 use bit_sets::IndexSet;
 use glob_text::Error;
-use lazy_dfa::StateSets;
+use byte_nfa::StateSets;
 use std::alloc::{AllocError, Global};
 use std::marker::Model;
 
@@ -76,7 +76,7 @@ pub struct Scratch {
 impl Model for Scratch {
     ghost use Rattle.std.specs.Prelude.{◌≤◌};
     ghost use Rattle.bit_sets.specs.Indexes.{index_capacity};
-    ghost use Rattle.lazy_dfa.specs.Sets.{sets_capacity};
+    ghost use Rattle.byte_nfa.specs.Sets.{sets_capacity};
     ghost use Rattle.glob_matching.specs.ScratchValue.{ScratchValue};
 
     ghost Value = { ScratchValue };

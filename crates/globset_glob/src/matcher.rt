@@ -1,7 +1,7 @@
 //! Matchers of a glob.
 
 ghost use Rattle.std.specs.Prelude.{◌≡◌, ◌+◌, ◌≤◌, ◌↔◌, IfOk, IsOk, IsOkUnless, IsTrue, IfSome};
-ghost use Rattle.lazy_dfa.specs.Sets.{sets_capacity};
+ghost use Rattle.byte_nfa.specs.Sets.{sets_capacity};
 ghost use Rattle.glob_matching.specs.ScratchValue.{FitsMatcher};
 ghost use Rattle.glob_text.specs.Errors.{out_of_memory};
 ghost use Rattle.glob_text.specs.Cost.{cost, max_visits, max_visits_below};
@@ -15,7 +15,8 @@ use glob_matching::{Compiled, DEFAULT_DFA_SIZE_LIMIT, NeedsScratch, Scratch};
 use glob_path::{AsPath, Candidate, Key};
 use glob_strategy::{MatchStrategy, add_tokens, new_builder, strategy_of};
 use glob_text::Error;
-use lazy_dfa::{Cache, StateSets};
+use byte_nfa::StateSets;
+use lazy_dfa::Cache;
 use std::alloc::{AllocError, Global};
 use std::fmt;
 use std::marker::Model;
@@ -47,8 +48,8 @@ pub struct GlobMatcher {
 }
 
 impl Model for GlobMatcher {
-    ghost use Rattle.glob_text.specs.GlobMatches.{GlobValue};
-    ghost use Rattle.globset_glob.specs.inner.GlobNfa.{IsStrategyOfMatcher};
+    ghost use Rattle.glob_text.specs.GlobMatches.{GlobValue, glob_matches};
+    ghost use Rattle.globset_glob.specs.inner.GlobNfa.{IsStrategyOfMatcher, IsCacheOf, form_states};
 
     ghost Value = { GlobValue };
 
@@ -58,8 +59,6 @@ impl Model for GlobMatcher {
 }
 
 impl GlobMatcher {
-    ghost use Rattle.glob_text.specs.GlobMatches.{glob_matches};
-    ghost use Rattle.globset_glob.specs.inner.GlobNfa.{IsStrategyOfMatcher};
 
     /// Returns a matcher of a glob, at the cost of [`Glob::compile_matcher_with_limit`].
     pub(crate) fn new(glob: Glob, dfa_size_limit: usize) -> Result<GlobMatcher, Error>
@@ -482,9 +481,7 @@ pub struct MatcherSearcher {
 
 impl Model for MatcherSearcher {
     ghost use Rattle.std.specs.Prelude.{◌≤◌, IfSome};
-    ghost use Rattle.lazy_dfa.specs.Sets.{sets_capacity};
-    ghost use Rattle.glob_text.specs.GlobMatches.{GlobValue};
-    ghost use Rattle.globset_glob.specs.inner.GlobNfa.{IsCacheOf, IsStrategyOfMatcher, form_states};
+    ghost use Rattle.byte_nfa.specs.Sets.{sets_capacity};
 
     ghost Value = { GlobValue };
 

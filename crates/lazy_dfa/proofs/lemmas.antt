@@ -1,12 +1,5 @@
 pub mod Lists
-pub mod Classes
-pub mod Finding
 pub mod Rows
-pub mod After
 pub mod Ends
 pub mod Reading
-pub mod Listing
-pub mod Told
-pub mod Stepping
-pub mod Running
 pub mod Shared

@@ -1,3 +1,1 @@
 pub mod inner
-pub mod Sets
-pub mod LazyDfaValue

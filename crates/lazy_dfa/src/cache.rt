@@ -8,9 +8,9 @@ ghost use Rattle.byte_nfa.specs.Runs.{size};
 ghost use Rattle.byte_nfa.specs.Steps.{NfaValue, IsReached};
 ghost use Rattle.lazy_dfa.specs.inner.Rows.{IsSound};
 
-use crate::automaton::{LazyDfa, fits_u32};
 use crate::rows::Rows;
 use bit_sets::{IndexSet, Visits};
+use byte_nfa::Simulation;
 use std::alloc::{AllocError, Global};
 use std::marker::Model;
 use std::sync::Arc;
@@ -21,7 +21,7 @@ use std::sync::Arc;
 /// has no effect on an answer.
 #[derive(Drop)]
 pub struct Cache {
-    dfa: Arc<LazyDfa>,
+    simulation: Arc<Simulation>,
     // In a box, since a cache is moved from call to call while a searcher is made.
     rows: Box<Rows>,
 }
@@ -29,9 +29,9 @@ pub struct Cache {
 impl Model for Cache {
     ghost Value = { NfaValue };
 
-    ghost view = { λ c. (arc_value c.dfa).nfa };
+    ghost view = { λ c. (arc_value c.simulation).nfa };
 
-    ghost invariant = { λ c. IsSound (arc_value c.dfa).run c.rows.value };
+    ghost invariant = { λ c. IsSound (arc_value c.simulation).run c.rows.value };
 }
 
 impl Cache {
@@ -39,16 +39,25 @@ impl Cache {
     ///
     /// It takes so many bytes, and more only where the states of a row take most of them: there is always room for these, and a
     /// quarter of the bytes for rows. All memory is taken here, and none by later calls. Returns an error if memory runs out, or
-    /// if [`LazyDfa::may_have_rows`] returns `false`.
-    pub fn new(alloc: Global, dfa: &Arc<LazyDfa>, bytes: usize) -> Result<Cache, AllocError>
-        ensures { IfOk result (λ cache. cache ≡ (arc_value dfa.now).nfa) }
+    /// if [`Simulation::may_have_rows`] returns `false`.
+    pub fn new(
+        alloc: Global,
+        simulation: &Arc<Simulation>,
+        bytes: usize,
+    ) -> Result<Cache, AllocError>
+        ensures { IfOk result (λ cache. cache ≡ (arc_value simulation.now).nfa) }
     {
-        if !fits_u32(dfa.automaton()) {
+        if !simulation.may_have_rows() {
             return Err(AllocError);
         }
-        let rows = Rows::new(alloc, dfa.automaton(), dfa.indexes().len(), bytes)?;
+        let rows = Rows::new(
+            alloc,
+            simulation.automaton(),
+            simulation.indexes().len(),
+            bytes,
+        )?;
         Ok(Cache {
-            dfa: Arc::try_clone(dfa)?,
+            simulation: Arc::try_clone(simulation)?,
             rows: Box::new(alloc, rows)?,
         })
     }
@@ -59,11 +68,16 @@ impl Cache {
     pub fn with_rows_of(alloc: Global, other: &Cache, bytes: usize) -> Result<Cache, AllocError>
         ensures { IfOk result (λ cache. cache ≡ other.now) }
     {
-        let dfa = &other.dfa;
-        let mut rows = Rows::new(alloc, dfa.automaton(), dfa.indexes().len(), bytes)?;
+        let simulation = &other.simulation;
+        let mut rows = Rows::new(
+            alloc,
+            simulation.automaton(),
+            simulation.indexes().len(),
+            bytes,
+        )?;
         rows.take_over(&other.rows);
         Ok(Cache {
-            dfa: Arc::try_clone(dfa)?,
+            simulation: Arc::try_clone(simulation)?,
             rows: Box::new(alloc, rows)?,
         })
     }
@@ -98,9 +112,9 @@ impl Cache {
         ensures visits { visits.new ≤ visits.old + (length text.now + 1) * (size self.old + 1) }
         ensures counted { visits.old ≤ visits.new }
     {
-        let automaton = self.dfa.automaton();
+        let automaton = self.simulation.automaton();
         self.rows
-            .find(automaton, self.dfa.indexes(), text, found, visits);
+            .find(automaton, self.simulation.indexes(), text, found, visits);
     }
 
     /// The same as [`Cache::find`] by entries that are there. Returns whether all that it needs are; if not, some of the indexes
@@ -122,12 +136,19 @@ impl Cache {
         ensures visits { visits.new ≤ visits.old + (length text.now + 1) }
         ensures counted { visits.old ≤ visits.new }
     {
-        let automaton = self.dfa.automaton();
+        let automaton = self.simulation.automaton();
         let Some(place) = self.rows.begin else {
             return false;
         };
         self.rows
-            .find_from(automaton, place, self.dfa.indexes(), text, found, visits)
+            .find_from(
+                automaton,
+                place,
+                self.simulation.indexes(),
+                text,
+                found,
+                visits,
+            )
             .is_none()
     }
 
@@ -140,7 +161,7 @@ impl Cache {
         ensures visits { visits.new ≤ visits.old + (length text.now + 1) * (size self.old + 1) }
         ensures counted { visits.old ≤ visits.new }
     {
-        let automaton = self.dfa.automaton();
+        let automaton = self.simulation.automaton();
         self.rows.is_match(automaton, text, visits)
     }
 
@@ -152,7 +173,7 @@ impl Cache {
         ensures visits { visits.new ≤ visits.old + (length text.now + 1) }
         ensures counted { visits.old ≤ visits.new }
     {
-        let automaton = self.dfa.automaton();
+        let automaton = self.simulation.automaton();
         self.rows.is_match_known(automaton, text, visits)
     }
 
@@ -165,9 +186,9 @@ impl Cache {
         ensures visits { visits.new ≤ visits.old + (length text.now + 2) * (size self.old + 1) }
         ensures counted { visits.old ≤ visits.new }
     {
-        let automaton = self.dfa.automaton();
+        let automaton = self.simulation.automaton();
         self.rows
-            .can_match_after(automaton, self.dfa.live(), text, byte, visits)
+            .can_match_after(automaton, self.simulation.live(), text, byte, visits)
     }
 
     /// The same as [`Cache::can_match_after`] by entries that are there. Returns `None` if one that it needs is not. It is at
@@ -179,8 +200,8 @@ impl Cache {
         ensures visits { visits.new ≤ visits.old + (length text.now + 1) + size self.now }
         ensures counted { visits.old ≤ visits.new }
     {
-        let automaton = self.dfa.automaton();
+        let automaton = self.simulation.automaton();
         self.rows
-            .can_match_after_known(automaton, self.dfa.live(), text, byte, visits)
+            .can_match_after_known(automaton, self.simulation.live(), text, byte, visits)
     }
 }

@@ -7,23 +7,22 @@ ghost use Rattle.bit_sets.specs.Numbers.{has_number, AreBelow};
 ghost use Rattle.bit_sets.specs.Texts.{AllBytes};
 ghost use Rattle.byte_nfa.specs.Live.{AreLive};
 ghost use Rattle.byte_nfa.specs.Steps.{NfaValue};
-ghost use Rattle.byte_nfa.specs.Runs.{size, AcceptsFrom};
-ghost use Rattle.lazy_dfa.specs.inner.Sources.{half, FitsU32};
-ghost use Rattle.lazy_dfa.specs.inner.Rows.{AcceptsIn, AcceptsRow, HasEnds, IsEntry, IsRowOf, IsSound, LeadsTo, MarksAre, AreListed, KeepsRows, HasSpace, states_of, max_entries, marked, BeginsAt, IsAt, IsStep};
+ghost use Rattle.byte_nfa.specs.Runs.{size, AcceptsFrom, AcceptsIn};
+ghost use Rattle.byte_nfa.specs.EarlyMatches.{half};
+ghost use Rattle.byte_nfa.specs.inner.Sources.{FitsU32};
+ghost use Rattle.lazy_dfa.specs.inner.Lists.{list_at};
+ghost use Rattle.lazy_dfa.specs.inner.Rows.{AcceptsRow, HasEnds, IsEntry, IsRowOf, IsSound, LeadsTo, MarksAre, AreListed, KeepsRows, HasSpace, states_of, max_entries, marked, BeginsAt, IsAt, IsStep};
 
 mod known;
 mod stepped;
 
-use crate::classes::ByteClasses;
-use crate::lists::{
-    copy_within, extend_within, list_indexes, list_of, push_within, put_states, states_at,
-    zeros_within,
+use bit_sets::{
+    IndexSet, StateSet, Visits, copy_within, extend_within, hash_of, list_indexes, list_of,
+    push_within, put_states, zeros_within,
 };
-use crate::pass::read;
-use bit_sets::{IndexSet, StateSet, Visits};
-use byte_nfa::Nfa;
+use byte_nfa::pass::read;
+use byte_nfa::{ByteClasses, Nfa};
 use std::alloc::{AllocError, Global};
-use std::hash::{FoldHasher, Hasher};
 use std::mem;
 pub use stepped::GivenUp;
 
@@ -553,6 +552,18 @@ impl Rows {
     }
 }
 
+/// Returns the list of states of a row, by the places where the lists of rows stand.
+fn states_at<'a>(starts: &[u32], lists: &'a [u32], row: usize) -> &'a [u32]
+    requires row { row < length starts.now }
+    requires list { slice_index starts.now row + 1
+        + slice_index lists.now (slice_index starts.now row) ≤ length lists.now }
+    ensures { result.now ≡ list_at lists.now (slice_index starts.now row) }
+{
+    let start = starts[row] as usize;
+    let count = lists[start] as usize;
+    &lists[start + 1..start + 1 + count]
+}
+
 /// Returns for how much there is room within so many bytes, where some numbers are taken for lists beside those of rows.
 fn room_within(bytes: usize, width: usize, states: usize, taken: usize) -> Room
     requires width { width ≤ 257 }
@@ -645,20 +656,4 @@ fn step_of(entry: u32) -> Step
 /// Returns a place of a table of so many places.
 fn place_of(hash: u64, probe: usize, count: usize) -> usize {
     (hash as usize).wrapping_add(probe) % count.max(1)
-}
-
-/// Returns the hash of a seed and a list of states.
-fn hash_of(seed: usize, list: &[u32]) -> u64 {
-    let mut hasher = FoldHasher::default();
-    hasher.write_usize(seed);
-    // Two states are hashed by one multiplication.
-    let (pairs, rest) = list.as_chunks::<2>();
-    for pair in pairs {
-        let [first, second] = *pair;
-        hasher.write_u64(first as u64 | (second as u64) << 32);
-    }
-    for state in rest {
-        hasher.write_u32(*state);
-    }
-    hasher.finish()
 }

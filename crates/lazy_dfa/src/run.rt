@@ -4,19 +4,18 @@ ghost use Rattle.std.specs.Prelude.{◌≡◌, ℕ, ◌+◌, ◌*◌, ◌<◌, �
 ghost use Rattle.bit_sets.specs.Indexes.{has_index, index_capacity};
 ghost use Rattle.bit_sets.specs.StateSets.{state_capacity};
 ghost use Rattle.bit_sets.specs.Texts.{AllBytes};
-ghost use Rattle.byte_nfa.specs.EarlyMatches.{EndsAtEarlyMatches};
+ghost use Rattle.byte_nfa.specs.EarlyMatches.{EndsAtEarlyMatches, half, FindsBy};
 ghost use Rattle.byte_nfa.specs.Live.{AreLive};
 ghost use Rattle.byte_nfa.specs.Steps.{NfaValue, IsReached};
 ghost use Rattle.byte_nfa.specs.Runs.{size};
-ghost use Rattle.lazy_dfa.specs.inner.Sources.{half};
-ghost use Rattle.lazy_dfa.specs.inner.Rows.{AcceptsRow, AddsFound, IsAt, IsSound, FindsBy};
+ghost use Rattle.lazy_dfa.specs.inner.Rows.{AcceptsRow, AddsFound, IsAt, IsSound};
 ghost use Rattle.lazy_dfa.specs.inner.Reached.{HasRead, IsLeft, IsWhere, IsWhereFrom};
-ghost use Rattle.lazy_dfa.specs.inner.Sources.{ListsEnds};
+ghost use Rattle.byte_nfa.specs.inner.Sources.{ListsEnds};
 
-use crate::lists::{found_count, tell_ends};
 use crate::rows::{GivenUp, REMEMBERED, Rows};
-use bit_sets::{IndexSet, StateSet, Visits};
+use bit_sets::{IndexSet, StateSet, Visits, found_count};
 use byte_nfa::Nfa;
+use byte_nfa::stepping::tell_ends;
 
 /// Where a text leads.
 #[derive(Clone, Copy)]

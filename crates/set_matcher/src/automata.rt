@@ -4,7 +4,7 @@ ghost use Rattle.std.specs.Prelude.{◌≡◌, ◌+◌, ◌*◌, ◌<◌, ◌≤
 ghost use Rattle.byte_nfa.specs.Runs.{size};
 ghost use Rattle.bit_sets.specs.Indexes.{index_capacity};
 ghost use Rattle.bit_sets.specs.Texts.{AllBytes};
-ghost use Rattle.lazy_dfa.specs.Sets.{sets_capacity};
+ghost use Rattle.byte_nfa.specs.Sets.{sets_capacity};
 ghost use Rattle.glob_strategy.specs.IndexedTokens.{indexed};
 ghost use Rattle.glob_path.specs.PathParts.{component_extension};
 ghost use Rattle.glob_syntax.specs.FlatTokens.{IsNested};
@@ -19,12 +19,11 @@ mod matchers;
 use crate::caches::Caches;
 use crate::path_part::{Part, matches_part, run};
 use bit_sets::{IndexSet, StateSet, Visits};
-use byte_nfa::{Builder, Nfa};
+use byte_nfa::{Builder, Nfa, StateSets};
 use glob_matching::Compiled;
 use glob_path::PathParts;
 use glob_strategy::{add_tokens, new_builder};
 use glob_syntax::{Options, Token};
-use lazy_dfa::StateSets;
 use matchers::{ExtensionMatchers, ExtensionMatchersBuilder};
 use std::alloc::{AllocError, Global};
 use std::marker::Model;
@@ -307,7 +306,6 @@ pub struct AutomataBuilder {
 }
 
 impl Model for AutomataBuilder {
-    ghost use Rattle.set_matcher.specs.inner.Automata.{AutomataParts};
     ghost use Rattle.set_matcher.specs.inner.Builders.{AreCollected};
 
     ghost Value = { AutomataParts };

@@ -4,13 +4,14 @@ ghost use Rattle.std.specs.Prelude.{◌≡◌, ◌+◌, ◌*◌, ◌≤◌, ◌+
 ghost use Rattle.byte_nfa.specs.Runs.{size, max_reads};
 ghost use Rattle.byte_nfa.specs.Steps.{NfaValue};
 ghost use Rattle.glob_strategy.specs.IndexedTokens.{IndexedTokens, IsFor, SomeMeanAfter};
-ghost use Rattle.lazy_dfa.specs.Sets.{sets_capacity};
+ghost use Rattle.byte_nfa.specs.Sets.{sets_capacity};
 ghost use Rattle.set_matcher.specs.inner.Automata.{AutomataParts};
 ghost use Rattle.set_matcher.specs.inner.Caches.{AreCachesOf, IsCacheAt};
 
 use bit_sets::Visits;
 use glob_matching::Compiled;
-use lazy_dfa::{Cache, StateSets};
+use byte_nfa::StateSets;
+use lazy_dfa::Cache;
 use std::alloc::AllocError;
 use std::marker::Model;
 

@@ -15,7 +15,7 @@ ghost use Rattle.set_matcher.specs.inner.SetMatcher.{AddsGlob, set_matcher_parts
 ghost use Rattle.set_matcher.specs.inner.TokenGlobs.{token_glob};
 ghost use Rattle.bit_sets.specs.Texts.{AllBytes};
 ghost use Rattle.glob_matching.specs.ScratchValue.{HasCapacity};
-ghost use Rattle.lazy_dfa.specs.Sets.{sets_capacity};
+ghost use Rattle.byte_nfa.specs.Sets.{sets_capacity};
 ghost use Rattle.set_matcher.specs.Answer.{matching_indexes};
 ghost use Rattle.set_matcher.specs.Below.{MatchesBelow};
 ghost use Rattle.set_matcher.specs.Indexes.{ContainsAllBelow};
@@ -29,7 +29,7 @@ use glob_path::{Candidate, LiteralIndex, LiteralIndexBuilder, PathParts};
 use glob_strategy::{MatchStrategy, strategy_of, tokens_after_prefix, tokens_before_ending};
 use glob_syntax::{Options, Token};
 use glob_text::GivenGlobs;
-use lazy_dfa::StateSets;
+use byte_nfa::StateSets;
 use std::alloc::{AllocError, Global};
 use std::marker::Model;
 use std::sync::Arc;
@@ -50,9 +50,9 @@ pub struct SetMatcher {
 }
 
 impl Model for SetMatcher {
-    ghost use Rattle.set_matcher.specs.SetMatcherValue.{SetMatcherValue, set_matcher_value};
+    ghost use Rattle.set_matcher.specs.SetMatcherValue.{SetMatcherValue, set_matcher_value, AddedGlobs};
     ghost use Rattle.set_matcher.specs.inner.Automata.{automata_or_none};
-    ghost use Rattle.set_matcher.specs.inner.SetMatcher.{KeepsMatcherOf};
+    ghost use Rattle.set_matcher.specs.inner.SetMatcher.{KeepsMatcherOf, IsMatcherOf};
 
     ghost Value = { SetMatcherValue };
 
@@ -323,8 +323,6 @@ pub struct SetMatcherBuilder {
 }
 
 impl Model for SetMatcherBuilder {
-    ghost use Rattle.set_matcher.specs.SetMatcherValue.{AddedGlobs};
-    ghost use Rattle.set_matcher.specs.inner.SetMatcher.{IsMatcherOf};
 
     ghost Value = { AddedGlobs };
 

@@ -4,7 +4,7 @@ ghost use Rattle.std.specs.Prelude.{◌≡◌, ◌+◌, ◌*◌, ◌≤◌, leng
 ghost use Rattle.bit_sets.specs.Indexes.{index_capacity};
 ghost use Rattle.bit_sets.specs.Texts.{AllBytes};
 ghost use Rattle.byte_nfa.specs.Runs.{size, max_reads};
-ghost use Rattle.lazy_dfa.specs.Sets.{sets_capacity};
+ghost use Rattle.byte_nfa.specs.Sets.{sets_capacity};
 ghost use Rattle.glob_matching.specs.Matching.{AddsMatches, TellsMatch};
 ghost use Rattle.set_matcher.specs.inner.Automata.{before_extension};
 ghost use Rattle.set_matcher.specs.inner.PathPart.{part_of};
@@ -12,7 +12,8 @@ ghost use Rattle.set_matcher.specs.inner.PathPart.{part_of};
 use bit_sets::{IndexSet, Visits};
 use glob_matching::Compiled;
 use glob_path::PathParts;
-use lazy_dfa::{Cache, StateSets};
+use byte_nfa::StateSets;
+use lazy_dfa::Cache;
 use std::alloc::AllocError;
 
 /// A part of a path that an automaton is run on.

@@ -2,10 +2,10 @@
 use Rattle.std.proofs.Common.{◌≡◌, ℕ, zero, suc, get_or, length, [], ◌+◌, ◌<◌, Bool, true, false, true≢false, ◌||◌, List, ◌∷◌, IsTrue, arith, refl, ap, sym, subst, ◌∙◌, below_more}
 use Rattle.std.specs.Prelude.{◌↔◌, IsFalse}
 use Rattle.bit_sets.specs.declared.byte_set.ByteSet.{ByteSet}
-use Rattle.bit_sets.specs.Bytes.{has_byte, differ}
+use Rattle.bit_sets.specs.Bytes.{has_byte, differ, set_at}
 use Rattle.byte_nfa.specs.Steps.{State, bytes_state, loop_state, state, Accepts, ends, by_byte, by_skip, by_out, by_stay}
 use Rattle.byte_nfa.specs.Equivalent.{reads_byte, AreEquivalent}
-use Rattle.byte_nfa.specs.inner.Views.{set_at, of_state, of_states, IsHeld, AreHeld}
+use Rattle.byte_nfa.specs.inner.Views.{of_state, of_states, IsHeld, AreHeld}
 use Rattle.byte_nfa.specs.declared.state.State as declared
 use Rattle.byte_nfa.specs.declared.state.State.TheVariants.{Bytes, Union, Loop, Match}
 use Rattle.byte_nfa.proofs.lemmas.Pass.{or_none}

@@ -16,6 +16,9 @@ use Rattle.byte_nfa.specs.inner.Pass.{head, goes_now, goes_next, names, AcceptsN
 pub iff_trans : {P Q R : Type 0} → P ↔ Q → Q ↔ R → P ↔ R
 iff_trans f g = (λ p. g.0 (f.0 p), λ r. f.1 (g.1 r))
 
+pub iff_sym : {P Q : Type 0} → (P ↔ Q) → Q ↔ P
+iff_sym f = (f.1, f.0)
+
 pub and_first : (p q : Bool) → (p && q) ≡ true → p ≡ true
 and_first true q h = refl
 and_first false q h = absurd (true≢false (sym h))

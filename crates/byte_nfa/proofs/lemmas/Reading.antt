@@ -8,7 +8,8 @@ use Rattle.bit_sets.specs.Numbers.{AreBelow, has_number}
 use Rattle.byte_nfa.specs.Runs.{size}
 use Rattle.byte_nfa.specs.inner.Pass.{names, AcceptsNow}
 use Rattle.byte_nfa.proofs.lemmas.Pass.{listed_in, in_listed, listed_below, or_first}
-use Rattle.byte_nfa.specs.inner.Views.{set_at, of_state, of_states, IsHeld, AreHeld, NamesBelow, nfa}
+use Rattle.bit_sets.specs.Bytes.{set_at}
+use Rattle.byte_nfa.specs.inner.Views.{of_state, of_states, IsHeld, AreHeld, NamesBelow, nfa}
 use Rattle.bit_sets.specs.declared.byte_set.ByteSet.{ByteSet}
 use Rattle.byte_nfa.specs.declared.state.State as declared
 use Rattle.byte_nfa.specs.declared.state.State.TheVariants.{Bytes, Union, Loop, Match}

@@ -1,16 +1,12 @@
 -- The states as an automaton stores them: a list has the sets of bytes, and another the states that states lead to without a
 -- byte.
-use Rattle.std.specs.Prelude.{ℕ, ◌+◌, ◌<◌, List, [], ◌∷◌, map, length, slice_index, slice_index_or, slice_range}
+use Rattle.std.specs.Prelude.{ℕ, ◌+◌, ◌<◌, List, [], ◌∷◌, map, length, slice_index, slice_range}
 use Rattle.byte_nfa.specs.Steps.{State, bytes_state, union_state, loop_state, match_state, state, NfaValue}
-use Rattle.bit_sets.specs.Bytes.{no_bytes}
+use Rattle.bit_sets.specs.Bytes.{set_at}
 use Rattle.bit_sets.specs.Numbers.{AreBelow}
 use Rattle.bit_sets.specs.declared.byte_set.ByteSet.{ByteSet}
 use Rattle.byte_nfa.specs.declared.state.State as declared
 use Rattle.byte_nfa.specs.declared.state.State.TheVariants.{Bytes, Union, Loop, Match}
-
--- the set with the number n; past the last it has no byte
-abbrev pub set_at : List ByteSet → ℕ → ByteSet
-set_at sets n = slice_index_or sets n no_bytes
 
 -- the states that stand in the list behind their count
 abbrev pub exits_at : List ℕ → ℕ → List ℕ

@@ -11,12 +11,13 @@ use Rattle.bit_sets.proofs.lemmas.Filters.{filter_more}
 use Rattle.byte_nfa.specs.Runs.{size}
 use Rattle.byte_nfa.specs.Steps.{NfaValue, state, match_state, Accepts, ends, by_byte, by_skip, by_out, by_stay}
 use Rattle.byte_nfa.proofs.lemmas.Pass.{accepts_within, or_first, or_second}
-use Rattle.lazy_dfa.specs.inner.Sources.{half}
-use Rattle.lazy_dfa.proofs.lemmas.Lists.{listed_push}
+use Rattle.byte_nfa.specs.EarlyMatches.{half, FindsBy}
+use Rattle.bit_sets.proofs.lemmas.Lists.{listed_push}
 use Rattle.lazy_dfa.specs.declared.rows.Rows.{Rows}
-use Rattle.lazy_dfa.specs.inner.Rows.{AcceptsRow, FindsBy}
-use Rattle.lazy_dfa.specs.inner.Sources.{AreFound, ListsEnds}
-use Rattle.lazy_dfa.proofs.lemmas.After.{number_place}
+use Rattle.lazy_dfa.specs.inner.Rows.{AcceptsRow}
+use Rattle.bit_sets.specs.Indexes.{AreFound}
+use Rattle.byte_nfa.specs.inner.Sources.{ListsEnds}
+use Rattle.byte_nfa.proofs.lemmas.After.{number_place}
 
 -- a number that passes a test is in the list of those that do, where one more is looked at
 listed_last : (test : ℕ → Bool) (n k : ℕ) (before : List ℕ) → (k < n → IsTrue (has_number k before)) → k < n + 1 → IsTrue (test k) → (b : Bool) → test n ≡ b → IsTrue (has_number k (before ++ cond b (n ∷ []) []))

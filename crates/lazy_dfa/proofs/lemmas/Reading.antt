@@ -6,14 +6,14 @@ use Rattle.bit_sets.specs.Indexes.{has_index}
 use Rattle.bit_sets.specs.declared.index_set.IndexSet.{IndexSet}
 use Rattle.byte_nfa.proofs.lemmas.Pass.{iff_trans}
 use Rattle.byte_nfa.specs.Steps.{NfaValue, IsReached}
-use Rattle.lazy_dfa.specs.inner.Sources.{half}
+use Rattle.byte_nfa.specs.EarlyMatches.{half, FindsBy}
 use Rattle.lazy_dfa.specs.declared.rows.Rows.{Rows}
 use Rattle.lazy_dfa.specs.declared.run.Left.{Left}
 use Rattle.lazy_dfa.specs.declared.run.Reached.{Reached}
 use Rattle.lazy_dfa.specs.declared.run.Reached.TheVariants.{Decided, Nothing, Row}
 use Rattle.lazy_dfa.specs.inner.Reached.{IsLeft, IsWhereBy}
-use Rattle.lazy_dfa.specs.inner.Rows.{AcceptsRow, AddsFound, FindsBy}
-use Rattle.lazy_dfa.proofs.lemmas.Finding.{iff_beside, finds_same}
+use Rattle.lazy_dfa.specs.inner.Rows.{AcceptsRow, AddsFound}
+use Rattle.byte_nfa.proofs.lemmas.Finding.{iff_beside, finds_same}
 
 -- where the rest leads, the whole text leads
 pub read_on : (m : NfaValue) (rows : Rows) (P Q : List ℕ → ℕ → Type 0) (rest text : List ℕ) (r : Reached)

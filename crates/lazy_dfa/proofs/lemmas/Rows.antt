@@ -12,19 +12,18 @@ use Rattle.bit_sets.specs.declared.state_set.StateSet.{StateSet}
 use Rattle.byte_nfa.specs.Steps.{NfaValue, IsReached, state}
 use Rattle.byte_nfa.specs.Equivalent.{AreEquivalent, reads_byte}
 use Rattle.byte_nfa.proofs.lemmas.Equivalent.{accepts_equivalent}
-use Rattle.byte_nfa.specs.Runs.{size, AcceptsFrom}
+use Rattle.byte_nfa.specs.Runs.{size, AcceptsFrom, AcceptsIn}
 use Rattle.byte_nfa.proofs.lemmas.Pass.{iff_trans, or_first, accepts_within}
-use Rattle.lazy_dfa.specs.inner.Sources.{half}
+use Rattle.byte_nfa.specs.EarlyMatches.{half}
 use Rattle.lazy_dfa.specs.inner.Lists.{list_at, IsList, IsListOf}
-use Rattle.lazy_dfa.proofs.lemmas.Lists.{list_of_iff}
+use Rattle.lazy_dfa.proofs.lemmas.Lists.{list_of_iff, keeps_lists, list_last}
 use Rattle.bit_sets.specs.Bits.{TellsFirstBelow}
 use Rattle.bit_sets.specs.Indexes.{has_index}
 use Rattle.bit_sets.specs.declared.index_set.IndexSet.{IndexSet}
 use Rattle.lazy_dfa.proofs.lemmas.Lists as Lists
-use Rattle.lazy_dfa.proofs.lemmas.Lists.{keeps_lists, list_last}
 use Rattle.lazy_dfa.specs.declared.rows.Rows.{Rows}
 use Rattle.lazy_dfa.specs.declared.rows.Step.{Step}
-use Rattle.lazy_dfa.specs.inner.Rows.{AcceptsIn, AcceptsRow, IsNext, IsEnd, IsEntry, IsEntryBy, IsSound, HasEnds, HasMarks, GoesTo, IsDeadBy, HasRoomFor, marked, KeepsRows, states_of, place_of, max_entries, IsAt, BeginsAt, IsStep, LeadsTo, MarksAre}
+use Rattle.lazy_dfa.specs.inner.Rows.{AcceptsRow, IsNext, IsEnd, IsEntry, IsEntryBy, IsSound, HasEnds, HasMarks, GoesTo, IsDeadBy, HasRoomFor, marked, KeepsRows, states_of, place_of, max_entries, IsAt, BeginsAt, IsStep, LeadsTo, MarksAre}
 
 -- places of entries
 

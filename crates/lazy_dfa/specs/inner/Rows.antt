@@ -1,13 +1,14 @@
 -- The rows of a cache.
-use Rattle.std.specs.Prelude.{◌≡◌, ℕ, ◌+◌, ◌-◌, ◌*◌, ◌<◌, ◌≤◌, ◌⊎◌, ◌↔◌, List, [], ◌∷◌, ◌++◌, Option, Some, length, slice_index, vec_capacity, IsTrue, MatchOption}
+use Rattle.std.specs.Prelude.{◌≡◌, ℕ, ◌+◌, ◌-◌, ◌*◌, ◌<◌, ◌≤◌, ◌⊎◌, ◌↔◌, List, [], ◌∷◌, Option, Some, length, slice_index, vec_capacity, IsTrue, MatchOption}
 use Rattle.bit_sets.specs.declared.index_set.IndexSet.{IndexSet}
 use Rattle.bit_sets.specs.Indexes.{has_index, index_capacity}
 use Rattle.bit_sets.specs.StateSets.{state_capacity}
-use Rattle.bit_sets.specs.Numbers.{has_number, AreBelow}
-use Rattle.byte_nfa.specs.Steps.{Accepts, NfaValue, IsReached}
-use Rattle.byte_nfa.specs.Runs.{size}
-use Rattle.lazy_dfa.specs.inner.Sources.{half, FitsU32}
-use Rattle.lazy_dfa.specs.inner.Classes.{AreEquivalenceClasses}
+use Rattle.bit_sets.specs.Numbers.{AreBelow}
+use Rattle.byte_nfa.specs.Steps.{NfaValue, IsReached}
+use Rattle.byte_nfa.specs.Runs.{size, AcceptsIn}
+use Rattle.byte_nfa.specs.EarlyMatches.{half, FindsBy}
+use Rattle.byte_nfa.specs.inner.Sources.{FitsU32}
+use Rattle.byte_nfa.specs.inner.Classes.{AreEquivalenceClasses}
 use Rattle.lazy_dfa.specs.inner.Lists.{list_at, IsList, IsListOf, KeepsLists}
 use Rattle.lazy_dfa.specs.declared.rows.Rows.{Rows}
 use Rattle.lazy_dfa.specs.declared.rows.Step.{Step}
@@ -19,10 +20,6 @@ states_of rows i = list_at rows.lists.items (slice_index rows.starts.items i)
 -- the list of states of each row is there
 abbrev pub AreListed : Rows → Type 0
 AreListed rows = (i : ℕ) → i < length rows.starts.items → slice_index rows.starts.items i + 1 + slice_index rows.lists.items (slice_index rows.starts.items i) ≤ length rows.lists.items
-
--- from some state of a list the text leads to an end of the index k
-abbrev pub AcceptsIn : NfaValue → List ℕ → List ℕ → ℕ → Type 0
-AcceptsIn m list y k = (t : ℕ) × IsTrue (has_number t list) × Accepts m.states k t y
 
 -- from some state of the row of number i the text leads to an end of the index k
 abbrev pub AcceptsRow : NfaValue → Rows → ℕ → List ℕ → ℕ → Type 0
@@ -170,10 +167,6 @@ pub record HasSpace (rows : Rows) : Type 0 where
   pub few : length rows.starts.items < max_entries
   pub small : length rows.entries.items + rows.class_count < max_entries
   pub entries : length rows.entries.items + rows.class_count < vec_capacity rows.entries
-
--- a text leads to an end of the index k, or its beginning to the end that says that k is decided
-abbrev pub FindsBy : ℕ → (List ℕ → ℕ → Type 0) → List ℕ → ℕ → Type 0
-FindsBy n P y k = (k < n) × (P y k ⊎ ((p : List ℕ) × (q : List ℕ) × (y ≡ p ++ q) × P p (n + k)))
 
 -- the new set has the indexes found in the text from the row of number i, in addition to the old set
 abbrev pub AddsFound : NfaValue → Rows → ℕ → List ℕ → IndexSet → IndexSet → Type 0

@@ -2,14 +2,17 @@
 
 ghost use Rattle.std.specs.Prelude.{◌≡◌, ℕ, ◌+◌, ◌*◌, ◌<◌, ◌≤◌, ◌⊎◌, ◌↔◌, [], IsTrue, IsFalse, IfSome, MatchOption, length};
 ghost use Rattle.bit_sets.specs.Indexes.{has_index, index_capacity};
+ghost use Rattle.bit_sets.specs.Numbers.{has_number};
 ghost use Rattle.byte_nfa.specs.Steps.{NfaValue};
-ghost use Rattle.lazy_dfa.specs.inner.Sources.{half};
+ghost use Rattle.byte_nfa.specs.EarlyMatches.{half};
+ghost use Rattle.byte_nfa.specs.inner.Told.{ToldBy};
+ghost use Rattle.lazy_dfa.specs.inner.Lists.{list_at, IsList};
 ghost use Rattle.lazy_dfa.specs.inner.Rows.{AcceptsRow, AddsFound, AddsMarks, HasTold, IsSound, IsAt, IsPlainStep, IsStep, IsToldStep, max_entries};
 
 use super::{FIRST, MARKED, REMEMBERED, Rows, Step, UNKNOWN, entry_at, step_of};
-use crate::lists::{copy_within, tell_listed};
-use bit_sets::{IndexSet, Visits};
+use bit_sets::{IndexSet, Visits, copy_within};
 use byte_nfa::Nfa;
+use byte_nfa::stepping::told_by;
 
 impl Rows {
     /// Returns the place of the row that a byte leads to from the row at a place, if that is known and the row has no marks. It
@@ -196,5 +199,25 @@ impl Rows {
         copy_within(&mut self.table, &other.table);
         self.seed = other.seed;
         self.begin = other.begin;
+    }
+}
+
+/// Puts what the ends of the indexes in the list at a place tell into a set, next to its contents, except ends of an index
+/// below `lowest`. There are twice `half` indexes.
+fn tell_listed(numbers: &[u32], place: usize, half: usize, lowest: usize, into: &mut IndexSet)
+    requires list { IsList numbers.now (half + half) place }
+    requires room { half ≤ index_capacity into.old }
+    ensures room { index_capacity into.new ≡ index_capacity into.old }
+    ensures has { (k : ℕ)
+        → IsTrue (has_index into.new k)
+        ↔ (ToldBy half (λ i. IsTrue (has_number i (list_at numbers.now place))) lowest k
+        ⊎ IsTrue (has_index into.old k)) }
+{
+    let count = numbers[place] as usize;
+    for index in &numbers[place + 1..place + 1 + count] {
+        let index = *index as usize;
+        if index >= lowest {
+            into.put(told_by(index, half));
+        }
     }
 }

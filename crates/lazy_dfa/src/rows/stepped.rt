@@ -2,19 +2,17 @@
 
 ghost use Rattle.std.specs.Prelude.{◌≡◌, ℕ, ◌+◌, ◌*◌, ◌<◌, ◌≤◌, ◌↔◌, List, length, MatchOption, MatchResult};
 ghost use Rattle.bit_sets.specs.Indexes.{index_capacity};
-ghost use Rattle.byte_nfa.specs.EarlyMatches.{EndsAtEarlyMatches};
+ghost use Rattle.byte_nfa.specs.EarlyMatches.{EndsAtEarlyMatches, half};
 ghost use Rattle.byte_nfa.specs.Runs.{size, AcceptsFrom};
 ghost use Rattle.byte_nfa.specs.Steps.{NfaValue};
 ghost use Rattle.lazy_dfa.specs.inner.Reached.{HasRead, IsLeft, IsWhereBy};
 ghost use Rattle.lazy_dfa.specs.inner.Rows.{AcceptsRow, AddsFound, IsAt, IsRowOf, IsSound};
-ghost use Rattle.lazy_dfa.specs.inner.Sources.{half};
 
-use super::Rows;
-use crate::lists::{list_of, put_states, states_at};
+use super::{Rows, states_at};
 use crate::run::{Left, Reached};
-use crate::stepping::{self, Led};
-use bit_sets::{IndexSet, Visits};
+use bit_sets::{IndexSet, Visits, list_of, put_states};
 use byte_nfa::Nfa;
+use byte_nfa::stepping::{self, Led};
 
 /// When a run gave up rows, or began, and for how many bytes it gives them up the next time.
 #[derive(Clone, Copy)]

@@ -4,7 +4,7 @@ ghost use Rattle.std.specs.Prelude.{◌≡◌, ◌+◌, ◌*◌, ◌<◌, ◌≤
 ghost use Rattle.bit_sets.specs.Indexes.{index_capacity};
 ghost use Rattle.bit_sets.specs.Texts.{AllBytes};
 ghost use Rattle.byte_nfa.specs.Runs.{size, max_reads};
-ghost use Rattle.lazy_dfa.specs.Sets.{sets_capacity};
+ghost use Rattle.byte_nfa.specs.Sets.{sets_capacity};
 ghost use Rattle.glob_matching.specs.Matching.{AddsMatches, TellsMatch};
 ghost use Rattle.glob_strategy.specs.IndexedTokens.{IndexedTokens, indexed};
 ghost use Rattle.glob_syntax.specs.FlatTokens.{IsNested};
@@ -19,12 +19,11 @@ use crate::caches::SlotCaches;
 use crate::path_part::before_extension;
 use bit_sets::{IndexSet, Visits};
 use byte_keys::{Table, TableBuilder};
-use byte_nfa::Builder;
+use byte_nfa::{Builder, StateSets};
 use glob_matching::Compiled;
 use glob_path::PathParts;
 use glob_strategy::{add_tokens, new_builder};
 use glob_syntax::{Options, Token};
-use lazy_dfa::StateSets;
 use std::alloc::{AllocError, Global};
 use std::collections::BTreeMap;
 use std::marker::Model;
@@ -291,7 +290,6 @@ pub struct ExtensionMatchersBuilder {
 }
 
 impl Model for ExtensionMatchersBuilder {
-    ghost use Rattle.set_matcher.specs.inner.Automata.{ExtensionParts, AreExtensionMatchers};
 
     ghost Value = { ExtensionParts };
 

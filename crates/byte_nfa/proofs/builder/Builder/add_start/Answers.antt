@@ -2,7 +2,7 @@ use Rattle.std.proofs.Common.{◌≡◌, length, arith, ap, sym, ◌∙◌}
 use Rattle.std.proofs.lemmas.List.{length-map}
 use Rattle.byte_nfa.specs.Runs.{size}
 use Rattle.byte_nfa.specs.inner.Views.{of_state}
-use Rattle.byte_nfa.proofs.lemmas.Loops.{below_push}
+use Rattle.bit_sets.proofs.lemmas.Lists.{below_more}
 use Rattle.byte_nfa.proofs.builder.Builder.add_start.Goals as goal
 
 pub invariant_of-self-2 : goal.invariant_of-self-2
@@ -14,5 +14,5 @@ invariant_of-self-2 c =
       held = sound.held;
       down = sound.down;
       named = sound.named;
-      begun = below_push (length inside.states.items) c.args.state inside.starts.items sound.begun (omega (arith, c.requires, count));
+      begun = below_more (length inside.states.items) c.args.state inside.starts.items (omega (arith, c.requires, count)) sound.begun;
     }

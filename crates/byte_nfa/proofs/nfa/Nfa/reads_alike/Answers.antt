@@ -2,10 +2,9 @@ use Rattle.std.proofs.Common.{◌≡◌, ℕ, ◌<◌, Bool, true, false, true�
 use Rattle.std.specs.Bool.{beq}
 use Rattle.std.proofs.lemmas.Bool.{cases_lt}
 use Rattle.std.proofs.Math.Logic.{⊎_elim}
-use Rattle.bit_sets.specs.Bytes.{has_byte}
+use Rattle.bit_sets.specs.Bytes.{has_byte, set_at}
 use Rattle.byte_nfa.specs.Equivalent.{AreEquivalent}
 use Rattle.byte_nfa.specs.Steps.{NfaValue}
-use Rattle.byte_nfa.specs.inner.Views.{set_at}
 use Rattle.byte_nfa.proofs.lemmas.Equivalent.{alike_states, set_read}
 use Rattle.byte_nfa.proofs.nfa.Nfa.reads_alike.Goals as goal
 

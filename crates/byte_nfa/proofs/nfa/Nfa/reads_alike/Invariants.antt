@@ -1,6 +1,5 @@
 use Rattle.std.proofs.Common.{◌≡◌, ℕ, ◌<◌}
-use Rattle.bit_sets.specs.Bytes.{has_byte}
-use Rattle.byte_nfa.specs.inner.Views.{set_at}
+use Rattle.bit_sets.specs.Bytes.{has_byte, set_at}
 use Rattle.byte_nfa.proofs.nfa.Nfa.reads_alike.Given as goal
 
 abbrev pub invariant-loop-set : goal.invariant-loop-set

@@ -26,8 +26,8 @@ from_parts-requires c =
 
 pub loop-s-init : goal.loop-s-init
 loop-s-init c = record {
-  len = ap length c.new-states.ensures.items;
-  sound = rw c.new-states.ensures.items record {
+  len = ap length c.in_ok-states.ensures.items;
+  sound = rw c.in_ok-states.ensures.items record {
     held = tt;
     down = λ s i lt. absurd (omega arith);
     named = λ s. tt;

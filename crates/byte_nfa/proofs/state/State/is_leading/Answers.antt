@@ -1,6 +1,6 @@
 use Rattle.std.proofs.Common.{sym, arith, ◌∙◌}
 use Rattle.bit_sets.specs.StateSets.{has_state}
-use Rattle.byte_nfa.specs.inner.Views.{set_at}
+use Rattle.bit_sets.specs.Bytes.{set_at}
 use Rattle.byte_nfa.proofs.lemmas.Live.{reads_lead}
 use Rattle.byte_nfa.proofs.state.State.is_leading.Goals as goal
 

@@ -3,7 +3,7 @@ use Rattle.std.specs.Prelude.{Option, IfSome}
 use Rattle.bit_sets.specs.declared.index_set.IndexSet.{IndexSet}
 use Rattle.byte_nfa.specs.Runs.{size}
 use Rattle.byte_nfa.specs.Steps.{NfaValue}
-use Rattle.lazy_dfa.specs.LazyDfaValue.{LazyDfaValue}
+use Rattle.byte_nfa.specs.SimulationValue.{SimulationValue}
 use Rattle.glob_matching.specs.Matching.{AddsReached}
 use Rattle.glob_matching.specs.inner.Found.{AddsSome}
 use Rattle.glob_matching.proofs.lemmas.Compiled.{adds_matches, on_ok}
@@ -44,7 +44,7 @@ returns-clause-reached c =
     let m = c.args.self.now in
     let text = c.args.text.now in
     let before = c.args.found.now in
-    let is : c.deref.result.now.nfa ≡ m = ap (λ (v : LazyDfaValue). v.nfa) c.deref.ensures ∙ c.self.invariant.0 ∙ c.self.view_is in
+    let is : c.deref.result.now.nfa ≡ m = ap (λ (v : SimulationValue). v.nfa) c.deref.ensures ∙ c.self.invariant.0 ∙ c.self.view_is in
     let some : AddsSome m text before c.match-self.found = elim c.match-self.branch [
       | in-Some-rows+else-find w ↦
           let made_for : w.in-Some-rows.rows ≡ m = subst (λ (o : Option NfaValue). IfSome o (λ r. r ≡ c.self.inside.source)) w.in-Some-rows.is c.self.invariant.1 ∙ c.self.view_is in
@@ -60,7 +60,7 @@ returns-clause-found c =
 pub returns-clause-visits : goal.returns-clause-visits
 returns-clause-visits c =
     let m = c.args.self.now in
-    let is : c.deref.result.now.nfa ≡ m = ap (λ (v : LazyDfaValue). v.nfa) c.deref.ensures ∙ c.self.invariant.0 ∙ c.self.view_is in
+    let is : c.deref.result.now.nfa ≡ m = ap (λ (v : SimulationValue). v.nfa) c.deref.ensures ∙ c.self.invariant.0 ∙ c.self.view_is in
     let positions = length c.args.text.now + 1 in
     let looks : c.match-self.visits ≤ c.args.visits.now + 2 * positions = elim c.match-self.branch [
       | in-Some-rows+else-find w ↦ omega (arith, w.visits-is, w.find-in-Some-rows.ensures.missed w.if-find.false, c.leads_to_none.ensures.visits)

@@ -2,7 +2,7 @@ use Rattle.std.specs.Prelude.{◌↔◌, Option, IfSome, IsTrue}
 use Rattle.std.proofs.Common.{sym, ℕ, ◌≡◌, ◌∙◌, false, ◌+◌, ◌*◌, ◌≤◌, length, ap, arith, subst}
 use Rattle.byte_nfa.specs.Runs.{size}
 use Rattle.byte_nfa.specs.Steps.{NfaValue, IsReached}
-use Rattle.lazy_dfa.specs.LazyDfaValue.{LazyDfaValue}
+use Rattle.byte_nfa.specs.SimulationValue.{SimulationValue}
 use Rattle.glob_matching.proofs.lemmas.Compiled.{if_ok, tells_match}
 use Rattle.glob_matching.proofs.lemmas.Rows.{none_matches, stepped_within}
 use Rattle.glob_matching.proofs.compiled.Compiled.is_match.Goals as goal
@@ -28,13 +28,13 @@ returns-in-Some-clause-some c =
 pub returns-clause-some : goal.returns-clause-some
 returns-clause-some c =
     let m = c.args.self.now in
-    let is : c.deref.result.now.nfa ≡ m = ap (λ (v : LazyDfaValue). v.nfa) c.deref.ensures ∙ c.self.invariant.0 ∙ c.self.view_is in
+    let is : c.deref.result.now.nfa ≡ m = ap (λ (v : SimulationValue). v.nfa) c.deref.ensures ∙ c.self.invariant.0 ∙ c.self.view_is in
     if_ok c.is_match-2.result (λ yes some. tells_match m c.args.text.now yes (λ i. omega (arith, c.type_inv.text i)) (subst (λ (x : NfaValue). IsTrue yes ↔ ((k : ℕ) × IsReached x c.args.text.now k)) is some)) c.is_match-2.ensures.some
 
 pub returns-clause-visits : goal.returns-clause-visits
 returns-clause-visits c =
     let m = c.args.self.now in
-    let is : c.deref.result.now.nfa ≡ m = ap (λ (v : LazyDfaValue). v.nfa) c.deref.ensures ∙ c.self.invariant.0 ∙ c.self.view_is in
+    let is : c.deref.result.now.nfa ≡ m = ap (λ (v : SimulationValue). v.nfa) c.deref.ensures ∙ c.self.invariant.0 ∙ c.self.view_is in
     let positions = length c.args.text.now + 1 in
     let looks : c.match-self.visits ≤ c.args.visits.now + 2 * positions = elim c.match-self.branch [
       | in-Some-rows+in_default-is_match w ↦ omega (arith, w.visits-is, w.is_match-in-Some-rows.ensures.missed w.in_default-is_match.is, c.leads_to_none.ensures.visits)

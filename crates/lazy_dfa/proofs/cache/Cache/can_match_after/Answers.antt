@@ -2,8 +2,8 @@ use Rattle.std.proofs.Common.{◌≡◌, subst}
 use Rattle.bit_sets.proofs.lemmas.Texts.{all_bytes}
 use Rattle.byte_nfa.proofs.lemmas.Pass.{iff_trans}
 use Rattle.byte_nfa.specs.Steps.{NfaValue}
-use Rattle.lazy_dfa.specs.inner.Sources.{RunsFor}
-use Rattle.lazy_dfa.proofs.lemmas.Running.{after_for}
+use Rattle.byte_nfa.specs.inner.Sources.{RunsFor}
+use Rattle.byte_nfa.proofs.lemmas.Running.{after_for}
 use Rattle.lazy_dfa.proofs.cache.Cache.can_match_after.Goals as goal
 
 pub returns-clause-some : goal.returns-clause-some

@@ -3,10 +3,11 @@ use Rattle.bit_sets.proofs.lemmas.Texts.{all_bytes}
 use Rattle.byte_nfa.proofs.lemmas.Pass.{iff_trans}
 use Rattle.byte_nfa.specs.Steps.{IsReached, NfaValue}
 use Rattle.lazy_dfa.specs.inner.Rows.{AcceptsRow, BeginsAt, IsSound}
-use Rattle.lazy_dfa.specs.inner.Sources.{RunsFor, half}
-use Rattle.lazy_dfa.proofs.lemmas.Finding.{finds_same, iff_beside}
+use Rattle.byte_nfa.specs.inner.Sources.{RunsFor}
+use Rattle.byte_nfa.specs.EarlyMatches.{half}
+use Rattle.byte_nfa.proofs.lemmas.Finding.{finds_same, iff_beside}
 use Rattle.lazy_dfa.proofs.lemmas.Reading.{finds_some, found_before}
-use Rattle.lazy_dfa.proofs.lemmas.Running.{found_for}
+use Rattle.byte_nfa.proofs.lemmas.Running.{found_for}
 use Rattle.lazy_dfa.proofs.cache.Cache.find_known.Goals as goal
 
 pub returns-clause-found : goal.returns-clause-found

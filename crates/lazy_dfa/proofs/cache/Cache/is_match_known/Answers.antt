@@ -1,10 +1,10 @@
 use Rattle.std.proofs.Common.{◌≡◌, subst}
 use Rattle.bit_sets.proofs.lemmas.Texts.{all_bytes}
-use Rattle.lazy_dfa.proofs.lemmas.Finding.{some_same}
+use Rattle.byte_nfa.proofs.lemmas.Finding.{some_same}
 use Rattle.lazy_dfa.proofs.lemmas.Reading.{answer_same}
 use Rattle.byte_nfa.specs.Steps.{NfaValue}
-use Rattle.lazy_dfa.specs.inner.Sources.{RunsFor}
-use Rattle.lazy_dfa.proofs.lemmas.Running.{found_for}
+use Rattle.byte_nfa.specs.inner.Sources.{RunsFor}
+use Rattle.byte_nfa.proofs.lemmas.Running.{found_for}
 use Rattle.lazy_dfa.proofs.cache.Cache.is_match_known.Goals as goal
 
 pub returns-clause-some : goal.returns-clause-some

@@ -1,9 +1,9 @@
 use Rattle.std.proofs.Common.{◌∙◌, true≢false, sym}
 use Rattle.byte_nfa.specs.Steps.{IsReached}
 use Rattle.byte_nfa.proofs.lemmas.Pass.{iff_trans}
-use Rattle.lazy_dfa.specs.inner.Sources.{half}
+use Rattle.byte_nfa.specs.EarlyMatches.{half}
 use Rattle.lazy_dfa.specs.inner.Rows.{AcceptsRow}
-use Rattle.lazy_dfa.proofs.lemmas.After.{index_below, decided_after, nothing_after, marked_after, row_after, dead_after}
+use Rattle.byte_nfa.proofs.lemmas.After.{index_below, decided_after, nothing_after, marked_after, row_after, dead_after}
 use Rattle.lazy_dfa.proofs.rows.Rows.can_match_after.Goals as goal
 
 pub returns-in-Decided-clause-some : goal.returns-in-Decided-clause-some

@@ -5,9 +5,9 @@ use Rattle.bit_sets.specs.Indexes.{has_index}
 use Rattle.byte_nfa.specs.Runs.{size}
 use Rattle.byte_nfa.specs.Steps.{IsReached}
 use Rattle.byte_nfa.proofs.lemmas.Pass.{iff_trans}
-use Rattle.lazy_dfa.specs.inner.Sources.{half}
+use Rattle.byte_nfa.specs.EarlyMatches.{half}
 use Rattle.lazy_dfa.specs.inner.Rows.{AcceptsRow}
-use Rattle.lazy_dfa.proofs.lemmas.Finding.{iff_beside, finds_same, next_found, dead_found, last_told, none_last, visits_left, visits_stepped}
+use Rattle.byte_nfa.proofs.lemmas.Finding.{iff_beside, finds_same, next_found, dead_found, last_told, none_last, visits_left, visits_stepped}
 use Rattle.lazy_dfa.proofs.lemmas.Rows.{none_reached}
 use Rattle.lazy_dfa.proofs.rows.Rows.find.Goals as goal
 

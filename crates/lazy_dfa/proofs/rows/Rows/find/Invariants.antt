@@ -3,8 +3,8 @@ use Rattle.std.specs.Prelude.{◌↔◌}
 use Rattle.bit_sets.specs.Indexes.{has_index, index_capacity}
 use Rattle.byte_nfa.specs.Runs.{size}
 use Rattle.byte_nfa.specs.Steps.{IsReached}
-use Rattle.lazy_dfa.specs.inner.Sources.{half}
-use Rattle.lazy_dfa.specs.inner.Rows.{IsSound, IsAt, AcceptsRow, FindsBy}
+use Rattle.byte_nfa.specs.EarlyMatches.{half, FindsBy}
+use Rattle.lazy_dfa.specs.inner.Rows.{IsSound, IsAt, AcceptsRow}
 use Rattle.lazy_dfa.proofs.rows.Rows.find.Given as goal
 
 abbrev pub invariant-loop-left : goal.invariant-loop-left

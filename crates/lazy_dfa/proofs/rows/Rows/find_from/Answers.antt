@@ -4,12 +4,11 @@ use Rattle.std.specs.Prelude.{◌↔◌}
 use Rattle.std.proofs.lemmas.List.{drop_more, drop_all, get_or-replicate, get_or_past}
 use Rattle.std.proofs.Math.Logic.{⊎_elim}
 use Rattle.bit_sets.specs.Indexes.{has_index}
-use Rattle.byte_nfa.proofs.lemmas.Pass.{iff_trans}
-use Rattle.lazy_dfa.specs.inner.Sources.{half}
-use Rattle.lazy_dfa.proofs.lemmas.Lists.{iff_sym}
-use Rattle.lazy_dfa.specs.inner.Rows.{AcceptsRow, FindsBy, IsAt}
+use Rattle.byte_nfa.proofs.lemmas.Pass.{iff_trans, iff_sym}
+use Rattle.byte_nfa.specs.EarlyMatches.{half, FindsBy}
+use Rattle.lazy_dfa.specs.inner.Rows.{AcceptsRow, IsAt}
 use Rattle.lazy_dfa.proofs.lemmas.Ends.{all_found, found_listed}
-use Rattle.lazy_dfa.proofs.lemmas.Finding.{iff_beside, at_quiet, at_dead, told_found}
+use Rattle.byte_nfa.proofs.lemmas.Finding.{iff_beside, at_quiet, at_dead, told_found}
 use Rattle.lazy_dfa.proofs.lemmas.Rows.{one_row, one_written}
 use Rattle.lazy_dfa.proofs.rows.Rows.find_from.Goals as goal
 use Rattle.lazy_dfa.proofs.rows.Rows.find_from.Goals.{in-Some, in_default+in-Some-told_step+in-Some-next+then-not-is_told+else-count-indexes, in_default+in-Some-told_step+in-Some-next+else-not-is_told}

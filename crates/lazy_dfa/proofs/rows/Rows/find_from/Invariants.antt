@@ -1,9 +1,9 @@
 use Rattle.std.proofs.Common.{◌≡◌, ℕ, ◌+◌, ◌≤◌, ◌⊎◌, drop, length, slice_index, IsTrue}
 use Rattle.std.specs.Prelude.{◌↔◌}
 use Rattle.bit_sets.specs.Indexes.{has_index, index_capacity}
-use Rattle.lazy_dfa.specs.inner.Sources.{half}
-use Rattle.lazy_dfa.specs.inner.Rows.{IsAt, AcceptsRow, FindsBy, HasTold}
-use Rattle.lazy_dfa.specs.inner.Sources.{AreFound}
+use Rattle.byte_nfa.specs.EarlyMatches.{half, FindsBy}
+use Rattle.lazy_dfa.specs.inner.Rows.{IsAt, AcceptsRow, HasTold}
+use Rattle.bit_sets.specs.Indexes.{AreFound}
 use Rattle.lazy_dfa.proofs.rows.Rows.find_from.Given as goal
 
 abbrev pub invariant-loop-byte : goal.invariant-loop-byte

@@ -1,10 +1,9 @@
 use Rattle.std.proofs.Common.{◌≡◌, ◌++◌, take, drop, arith, take-append-drop}
-use Rattle.byte_nfa.proofs.lemmas.Pass.{iff_trans}
+use Rattle.byte_nfa.proofs.lemmas.Pass.{iff_trans, iff_sym}
 use Rattle.byte_nfa.specs.Runs.{AcceptsFrom}
-use Rattle.lazy_dfa.specs.inner.Sources.{half}
+use Rattle.byte_nfa.specs.EarlyMatches.{half}
 use Rattle.lazy_dfa.specs.inner.Rows.{AcceptsRow}
-use Rattle.lazy_dfa.proofs.lemmas.Finding.{iff_beside, finds_same}
-use Rattle.lazy_dfa.proofs.lemmas.Lists.{iff_sym}
+use Rattle.byte_nfa.proofs.lemmas.Finding.{iff_beside, finds_same}
 use Rattle.lazy_dfa.proofs.lemmas.Rows.{sets_sound}
 use Rattle.lazy_dfa.proofs.rows.Rows.find_stepped.Goals as goal
 

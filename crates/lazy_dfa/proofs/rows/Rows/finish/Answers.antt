@@ -1,6 +1,6 @@
 use Rattle.std.proofs.Common.{◌≡◌, ℕ, ◌+◌, ◌<◌, [], true≢false, arith, refl, sym, ◌∙◌}
 use Rattle.bit_sets.specs.Indexes.{has_index}
-use Rattle.lazy_dfa.specs.inner.Sources.{half}
+use Rattle.byte_nfa.specs.EarlyMatches.{half}
 use Rattle.lazy_dfa.proofs.lemmas.Rows.{in_range, accepts_kept, ends_kept}
 use Rattle.lazy_dfa.proofs.rows.Rows.finish.Goals as goal
 

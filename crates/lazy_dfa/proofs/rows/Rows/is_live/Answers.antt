@@ -1,6 +1,6 @@
 use Rattle.std.proofs.Common.{◌≡◌, ◌∙◌, ◌<◌, true≢false, length, refl, sym, arith}
 use Rattle.lazy_dfa.specs.inner.Rows.{states_of}
-use Rattle.lazy_dfa.proofs.lemmas.After.{some_live, none_live}
+use Rattle.byte_nfa.proofs.lemmas.After.{some_live, none_live}
 use Rattle.lazy_dfa.proofs.rows.Rows.is_live.Goals as goal
 
 pub returns-then-has-clause-some : goal.returns-then-has-clause-some

@@ -1,7 +1,7 @@
 use Rattle.byte_nfa.specs.Steps.{IsReached}
-use Rattle.lazy_dfa.specs.inner.Sources.{half}
+use Rattle.byte_nfa.specs.EarlyMatches.{half}
 use Rattle.lazy_dfa.specs.inner.Rows.{AcceptsRow}
-use Rattle.lazy_dfa.proofs.lemmas.After.{decided_end, nothing_end, row_end}
+use Rattle.byte_nfa.proofs.lemmas.After.{decided_end, nothing_end, row_end}
 use Rattle.lazy_dfa.proofs.lemmas.Reading.{answer_same}
 use Rattle.lazy_dfa.proofs.rows.Rows.is_match_known.Goals as goal
 

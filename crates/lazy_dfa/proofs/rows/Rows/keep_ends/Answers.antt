@@ -1,5 +1,5 @@
 use Rattle.std.proofs.Common.{◌≡◌, ◌∷◌, [], ◌++◌, length, append_assoc, refl, ap, ◌∙◌, arith}
-use Rattle.lazy_dfa.specs.inner.Sources.{half}
+use Rattle.byte_nfa.specs.EarlyMatches.{half}
 use Rattle.lazy_dfa.proofs.lemmas.Rows.{listed_keeps, listed_sound, same_sound}
 use Rattle.lazy_dfa.proofs.rows.Rows.keep_ends.Goals as goal
 

@@ -1,5 +1,5 @@
 use Rattle.std.proofs.Common.{◌+◌, inl, inr, true≢false, arith, refl, sym, ◌∙◌}
-use Rattle.lazy_dfa.specs.inner.Sources.{half}
+use Rattle.byte_nfa.specs.EarlyMatches.{half}
 use Rattle.lazy_dfa.proofs.lemmas.Rows.{marks_by_ends}
 use Rattle.lazy_dfa.proofs.rows.Rows.keep_marks.Goals as goal
 

@@ -1,7 +1,6 @@
 use Rattle.std.proofs.Common.{◌≡◌, ℕ, ◌+◌, ◌-◌, ◌<◌, ◌≤◌, ◌∷◌, length, slice_index, arith, subst, sym, ◌∙◌}
 use Rattle.std.proofs.lemmas.Bool.{eqb-true}
-use Rattle.byte_nfa.proofs.lemmas.Pass.{iff_trans}
-use Rattle.lazy_dfa.proofs.lemmas.Lists.{iff_sym}
+use Rattle.byte_nfa.proofs.lemmas.Pass.{iff_trans, iff_sym}
 use Rattle.lazy_dfa.specs.inner.Rows.{IsEntry, GoesTo, KeepsRows}
 use Rattle.lazy_dfa.proofs.lemmas.Rows.{accepts_kept, at_kept, ends_kept, place_within, entry_by, keeps_then, marks_before, marks_kept, marks_on, marks_still, nothing_listed}
 use Rattle.lazy_dfa.proofs.rows.Rows.leave.Goals as goal

@@ -1,8 +1,7 @@
 use Rattle.std.proofs.Common.{ℕ, ◌+◌, length, ap, arith, subst, sym, ◌∙◌}
 use Rattle.std.proofs.lemmas.Nat.{mul-le}
-use Rattle.byte_nfa.proofs.lemmas.Pass.{iff_trans}
+use Rattle.byte_nfa.proofs.lemmas.Pass.{iff_trans, iff_sym}
 use Rattle.lazy_dfa.specs.inner.Rows.{IsFirst}
-use Rattle.lazy_dfa.proofs.lemmas.Lists.{iff_sym}
 use Rattle.lazy_dfa.proofs.lemmas.Rows.{accepts_listed}
 use Rattle.lazy_dfa.proofs.rows.Rows.new.Goals as goal
 

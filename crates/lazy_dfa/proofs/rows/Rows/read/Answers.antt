@@ -3,9 +3,9 @@ use Rattle.std.proofs.lemmas.List.{length-drop, take_rest}
 use Rattle.byte_nfa.specs.Runs.{size}
 use Rattle.byte_nfa.specs.Steps.{IsReached}
 use Rattle.byte_nfa.proofs.lemmas.Pass.{iff_trans}
-use Rattle.lazy_dfa.specs.inner.Sources.{half}
+use Rattle.byte_nfa.specs.EarlyMatches.{half}
 use Rattle.lazy_dfa.specs.inner.Rows.{AcceptsRow}
-use Rattle.lazy_dfa.proofs.lemmas.Finding.{finds_same, at_quiet, at_dead, visits_left, visits_stepped}
+use Rattle.byte_nfa.proofs.lemmas.Finding.{finds_same, at_quiet, at_dead, visits_left, visits_stepped}
 use Rattle.lazy_dfa.proofs.lemmas.Reading.{read_on}
 use Rattle.lazy_dfa.proofs.rows.Rows.read.Goals as goal
 

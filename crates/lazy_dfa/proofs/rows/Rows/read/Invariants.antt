@@ -2,8 +2,8 @@ use Rattle.std.proofs.Common.{ℕ, ◌+◌, ◌*◌, ◌≤◌, List, ◌++◌, 
 use Rattle.std.specs.Prelude.{◌↔◌}
 use Rattle.byte_nfa.specs.Runs.{size}
 use Rattle.byte_nfa.specs.Steps.{IsReached}
-use Rattle.lazy_dfa.specs.inner.Sources.{half}
-use Rattle.lazy_dfa.specs.inner.Rows.{IsSound, IsAt, AcceptsRow, FindsBy}
+use Rattle.byte_nfa.specs.EarlyMatches.{half, FindsBy}
+use Rattle.lazy_dfa.specs.inner.Rows.{IsSound, IsAt, AcceptsRow}
 use Rattle.lazy_dfa.proofs.rows.Rows.read.Given as goal
 
 abbrev pub invariant-loop-reached : goal.invariant-loop-reached

@@ -2,9 +2,9 @@ use Rattle.std.proofs.Common.{◌≡◌, ℕ, ◌+◌, ◌<◌, ◌∷◌, ◌++
 use Rattle.std.proofs.lemmas.List.{drop_more}
 use Rattle.std.specs.Prelude.{◌↔◌}
 use Rattle.byte_nfa.proofs.lemmas.Pass.{iff_trans}
-use Rattle.lazy_dfa.specs.inner.Sources.{half}
-use Rattle.lazy_dfa.specs.inner.Rows.{AcceptsRow, FindsBy}
-use Rattle.lazy_dfa.proofs.lemmas.Finding.{at_quiet, at_dead}
+use Rattle.byte_nfa.specs.EarlyMatches.{half, FindsBy}
+use Rattle.lazy_dfa.specs.inner.Rows.{AcceptsRow}
+use Rattle.byte_nfa.proofs.lemmas.Finding.{at_quiet, at_dead}
 use Rattle.lazy_dfa.proofs.lemmas.Rows.{one_row}
 use Rattle.lazy_dfa.proofs.rows.Rows.read_from.Goals as goal
 use Rattle.lazy_dfa.proofs.rows.Rows.read_from.Goals.{in-Some, in_default+in-Some-known_step+else-step+in-Some-next}

@@ -1,7 +1,7 @@
 use Rattle.std.proofs.Common.{◌≡◌, ℕ, ◌+◌, ◌≤◌, List, ◌++◌, drop}
 use Rattle.std.specs.Prelude.{◌↔◌}
-use Rattle.lazy_dfa.specs.inner.Sources.{half}
-use Rattle.lazy_dfa.specs.inner.Rows.{IsAt, AcceptsRow, FindsBy}
+use Rattle.byte_nfa.specs.EarlyMatches.{half, FindsBy}
+use Rattle.lazy_dfa.specs.inner.Rows.{IsAt, AcceptsRow}
 use Rattle.lazy_dfa.proofs.rows.Rows.read_from.Given as goal
 
 abbrev pub invariant-loop-byte : goal.invariant-loop-byte

@@ -2,9 +2,9 @@ use Rattle.std.proofs.Common.{◌≡◌, ◌++◌, [], drop, arith}
 use Rattle.std.proofs.lemmas.List.{drop_all}
 use Rattle.byte_nfa.proofs.lemmas.Pass.{iff_trans}
 use Rattle.byte_nfa.specs.Steps.{IsReached}
-use Rattle.lazy_dfa.specs.inner.Sources.{half}
+use Rattle.byte_nfa.specs.EarlyMatches.{half}
 use Rattle.lazy_dfa.specs.inner.Rows.{AcceptsRow}
-use Rattle.lazy_dfa.proofs.lemmas.Finding.{finds_same}
+use Rattle.byte_nfa.proofs.lemmas.Finding.{finds_same}
 use Rattle.lazy_dfa.proofs.lemmas.Reading.{read_on}
 use Rattle.lazy_dfa.proofs.rows.Rows.read_known.Goals as goal
 

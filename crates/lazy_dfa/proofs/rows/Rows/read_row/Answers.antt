@@ -1,6 +1,5 @@
 use Rattle.std.proofs.Common.{◌≡◌, ◌∷◌, [], arith, refl, subst, sym}
-use Rattle.byte_nfa.proofs.lemmas.Pass.{iff_trans}
-use Rattle.lazy_dfa.proofs.lemmas.Lists.{iff_sym}
+use Rattle.byte_nfa.proofs.lemmas.Pass.{iff_trans, iff_sym}
 use Rattle.bit_sets.specs.StateSets.{state_capacity}
 use Rattle.bit_sets.specs.Numbers.{AreBelow}
 use Rattle.lazy_dfa.specs.inner.Rows.{states_of}

@@ -1,10 +1,9 @@
 use Rattle.std.proofs.Common.{◌≡◌, ◌++◌, take, drop, arith, subst, sym, append_assoc, take-append-drop, ◌∙◌, ap, List, ℕ}
-use Rattle.byte_nfa.proofs.lemmas.Pass.{iff_trans}
+use Rattle.byte_nfa.proofs.lemmas.Pass.{iff_trans, iff_sym}
 use Rattle.byte_nfa.specs.Runs.{AcceptsFrom}
-use Rattle.lazy_dfa.specs.inner.Sources.{half}
-use Rattle.lazy_dfa.specs.inner.Rows.{AcceptsRow, FindsBy}
-use Rattle.lazy_dfa.proofs.lemmas.Finding.{finds_same}
-use Rattle.lazy_dfa.proofs.lemmas.Lists.{iff_sym}
+use Rattle.byte_nfa.specs.EarlyMatches.{half, FindsBy}
+use Rattle.lazy_dfa.specs.inner.Rows.{AcceptsRow}
+use Rattle.byte_nfa.proofs.lemmas.Finding.{finds_same}
 use Rattle.lazy_dfa.proofs.lemmas.Rows.{sets_sound}
 use Rattle.lazy_dfa.proofs.rows.Rows.read_stepped.Goals as goal
 

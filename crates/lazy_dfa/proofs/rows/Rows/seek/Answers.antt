@@ -1,6 +1,6 @@
 use Rattle.std.proofs.Common.{◌∙◌, arith, refl, subst, sym}
 use Rattle.lazy_dfa.proofs.lemmas.Lists.{keeps_then}
-use Rattle.lazy_dfa.specs.inner.Rows.{AcceptsIn}
+use Rattle.byte_nfa.specs.Runs.{AcceptsIn}
 use Rattle.lazy_dfa.proofs.rows.Rows.seek.Goals as goal
 
 pub returns-in-Some-clause-row : goal.returns-in-Some-clause-row

@@ -1,6 +1,5 @@
 use Rattle.std.proofs.Common.{◌≡◌, refl, arith, sym, ◌∙◌}
-use Rattle.byte_nfa.proofs.lemmas.Pass.{iff_trans}
-use Rattle.lazy_dfa.proofs.lemmas.Lists.{iff_sym}
+use Rattle.byte_nfa.proofs.lemmas.Pass.{iff_trans, iff_sym}
 use Rattle.lazy_dfa.proofs.lemmas.Rows.{same_sound, begun_sound}
 use Rattle.lazy_dfa.proofs.rows.Rows.start.Goals as goal
 

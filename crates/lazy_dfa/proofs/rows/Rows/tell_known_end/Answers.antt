@@ -2,9 +2,9 @@ use Rattle.std.proofs.Common.{◌+◌, inr, IsTrue, slice_index, arith, ap, ◌�
 use Rattle.std.proofs.Math.Logic.{⊎_elim}
 use Rattle.bit_sets.specs.Indexes.{has_index}
 use Rattle.byte_nfa.proofs.lemmas.Pass.{iff_trans}
-use Rattle.lazy_dfa.specs.inner.Sources.{half}
+use Rattle.byte_nfa.specs.EarlyMatches.{half}
 use Rattle.lazy_dfa.specs.inner.Rows.{AcceptsRow}
-use Rattle.lazy_dfa.proofs.lemmas.Finding.{iff_beside, last_told, none_last}
+use Rattle.byte_nfa.proofs.lemmas.Finding.{iff_beside, last_told, none_last}
 use Rattle.lazy_dfa.proofs.lemmas.Rows.{read_end}
 use Rattle.lazy_dfa.proofs.rows.Rows.tell_known_end.Goals as goal
 

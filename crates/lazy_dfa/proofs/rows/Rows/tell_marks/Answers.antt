@@ -1,8 +1,8 @@
 use Rattle.std.proofs.Common.{◌+◌, slice_index, arith, ap, ◌∙◌}
 use Rattle.byte_nfa.proofs.lemmas.Pass.{iff_trans}
-use Rattle.lazy_dfa.proofs.lemmas.Finding.{iff_beside}
-use Rattle.lazy_dfa.proofs.lemmas.Told.{told_decided}
-use Rattle.lazy_dfa.specs.inner.Sources.{half}
+use Rattle.byte_nfa.proofs.lemmas.Finding.{iff_beside}
+use Rattle.byte_nfa.proofs.lemmas.Told.{told_decided}
+use Rattle.byte_nfa.specs.EarlyMatches.{half}
 use Rattle.lazy_dfa.proofs.lemmas.Rows.{read_end}
 use Rattle.lazy_dfa.proofs.rows.Rows.tell_marks.Goals as goal
 

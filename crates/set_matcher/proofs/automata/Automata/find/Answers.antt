@@ -1,7 +1,7 @@
 use Rattle.std.proofs.Common.{◌≡◌, ◌+◌, ◌*◌, ◌≤◌, length, refl, ap, sym, subst, true≢false, arith, ◌∙◌}
 use Rattle.glob_strategy.specs.IndexedTokens.{IsFor}
 use Rattle.byte_nfa.specs.Runs.{size, max_reads}
-use Rattle.lazy_dfa.specs.Sets.{sets_capacity}
+use Rattle.byte_nfa.specs.Sets.{sets_capacity}
 use Rattle.byte_nfa.specs.Steps.{NfaValue}
 use Rattle.std.proofs.Math.Logic.{⊎_elim}
 use Rattle.glob_path.specs.PathParts.{last_component, component_extension, last_position, is_separator}

@@ -1,5 +1,5 @@
 use Rattle.std.proofs.Common.{◌≡◌, ◌++◌, ◌∷◌, [], ◌+◌, ◌*◌, ◌≤◌, ℕ, List, length, take}
-use Rattle.lazy_dfa.specs.Sets.{sets_capacity}
+use Rattle.byte_nfa.specs.Sets.{sets_capacity}
 use Rattle.glob_strategy.specs.IndexedTokens.{IndexedTokens}
 use Rattle.set_matcher.specs.inner.Automata.{AreFor, SomeExtensionAfter, total_reads}
 use Rattle.set_matcher.proofs.automata.matchers.ExtensionMatchers.can_match_after.Given as goal

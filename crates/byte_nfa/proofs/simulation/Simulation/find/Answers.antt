@@ -1,0 +1,20 @@
+use Rattle.std.proofs.Common.{◌≡◌, sym}
+use Rattle.bit_sets.proofs.lemmas.Texts.{all_bytes}
+use Rattle.byte_nfa.specs.Runs.{AcceptsFrom}
+use Rattle.byte_nfa.specs.Steps.{IsReached}
+use Rattle.byte_nfa.proofs.lemmas.Pass.{iff_trans}
+use Rattle.byte_nfa.specs.EarlyMatches.{half}
+use Rattle.byte_nfa.proofs.lemmas.Finding.{iff_beside, finds_same}
+use Rattle.byte_nfa.proofs.lemmas.Running.{found_for}
+use Rattle.byte_nfa.proofs.simulation.Simulation.find.Goals as goal
+
+pub returns-clause-found : goal.returns-clause-found
+returns-clause-found c = λ k.
+    let m = c.self.inside.automaton in
+    let source = c.self.inside.source.value in
+    let runs = c.self.invariant.runs in
+    let text = c.args.text.now in
+    let bytes = all_bytes text (λ j. (c.type_inv.text j).fits) in
+    let is : source ≡ c.args.self.now.nfa = cc in
+    let begins = c.start.ensures.starts in
+    rw (sym is) (iff_trans (c.find.ensures.found k) (iff_beside (iff_trans (finds_same (half m) (AcceptsFrom m c.start.new.into) (IsReached m) begins text k) (found_for source m runs text bytes k))))

@@ -1,0 +1,15 @@
+use Rattle.std.proofs.Common.{◌≡◌, ℕ, ◌+◌, ◌*◌, ◌≤◌, ◌++◌, List, min, drop}
+use Rattle.std.specs.Prelude.{◌↔◌}
+use Rattle.bit_sets.specs.StateSets.{state_capacity}
+use Rattle.byte_nfa.specs.Runs.{size, AcceptsFrom}
+use Rattle.byte_nfa.specs.EarlyMatches.{half, FindsBy}
+use Rattle.byte_nfa.proofs.stepping.read.Given as goal
+
+abbrev pub invariant-loop-byte : goal.invariant-loop-byte
+invariant-loop-byte l =
+    let m = l.automaton in record {
+      sets : min (state_capacity l.from) (state_capacity l.to) ≡ min (state_capacity l.fn.from) (state_capacity l.fn.to);
+      runs : (z : List ℕ) (k : ℕ) → FindsBy (half m) (AcceptsFrom m l.from) (drop l.byte-index l.text ++ z) k ↔ FindsBy (half m) (AcceptsFrom m l.fn.from) (l.text ++ z) k;
+      visits : l.visits ≤ l.fn.visits + l.byte-index * size m;
+      counted : l.fn.visits ≤ l.visits;
+    }
