@@ -1,6 +1,7 @@
 pub mod PathParts
 pub mod Below
 pub mod Key
-pub mod LiteralIndex
-pub mod KeysBelow
+pub mod Entries
+pub mod Texts
+pub mod Laws
 pub mod inner

@@ -5,4 +5,6 @@ pub mod Direct
 pub mod StrategyMeaning
 pub mod Below
 pub mod IndexedTokens
+pub mod LiteralIndex
+pub mod KeysBelow
 pub mod inner

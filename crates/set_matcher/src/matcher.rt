@@ -25,8 +25,11 @@ use crate::automata::{Automata, AutomataBuilder, Target};
 use crate::caches::Caches;
 use bit_sets::Visits;
 use glob_matching::Scratch;
-use glob_path::{Candidate, LiteralIndex, LiteralIndexBuilder, PathParts};
-use glob_strategy::{MatchStrategy, strategy_of, tokens_after_prefix, tokens_before_ending};
+use glob_path::{Candidate, PathParts};
+use glob_strategy::{
+    LiteralIndex, LiteralIndexBuilder, MatchStrategy, strategy_of, tokens_after_prefix,
+    tokens_before_ending,
+};
 use glob_syntax::{Options, Token};
 use glob_text::GivenGlobs;
 use byte_nfa::StateSets;

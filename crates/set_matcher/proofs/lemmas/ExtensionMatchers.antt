@@ -12,9 +12,9 @@ use Rattle.std.proofs.lemmas.Nat.{mul-le}
 use Rattle.std.proofs.lemmas.List.{take_more, get_or_push, get_or_append_left, get_or-set_same, get_or-set_other, length-append, length-set}
 use Rattle.byte_nfa.specs.Steps.{HasNumber, NfaValue}
 use Rattle.byte_nfa.specs.Runs.{size, max_reads}
-use Rattle.byte_keys.specs.Entries.{Entry, entry, indexes_under}
-use Rattle.byte_keys.proofs.lemmas.Entries.{with_index}
-use Rattle.byte_keys.proofs.lemmas.Entries.{indexes_added}
+use Rattle.glob_path.specs.Entries.{Entry, entry, indexes_under}
+use Rattle.glob_path.proofs.lemmas.Entries.{with_index}
+use Rattle.glob_path.proofs.lemmas.Entries.{indexes_added}
 use Rattle.glob_syntax.specs.After.{MeanAfter}
 use Rattle.glob_strategy.specs.IndexedTokens.{SomeMeanAfter}
 use Rattle.glob_strategy.specs.IndexedTokens.{IndexedTokens, IsFor}

@@ -7,8 +7,8 @@ use Rattle.std.specs.Ordering.{is_eq, nat_cmp}
 use Rattle.std.specs.Str.{bytes_eq}
 use Rattle.std.proofs.lemmas.Bool.{cases_Bool, cond-false}
 use Rattle.std.proofs.lemmas.Map.Text.{is_eq-slice_cmp}
-use Rattle.byte_keys.specs.Entries.{Entry, entry}
-use Rattle.byte_keys.proofs.lemmas.Entries.{indexes_added}
+use Rattle.glob_path.specs.Entries.{Entry, entry}
+use Rattle.glob_path.proofs.lemmas.Entries.{indexes_added}
 use Rattle.set_matcher.specs.inner.Automata.{first, slot_of}
 use Rattle.set_matcher.specs.inner.ExtensionSlots.{slot_in, HasSlots}
 use Rattle.set_matcher.proofs.lemmas.Tables.{first_of_key}

@@ -4,9 +4,9 @@ use Rattle.std.proofs.Math.Logic.{⊎_elim}
 use Rattle.std.specs.Str.{bytes_eq}
 use Rattle.std.specs.Cmp.Lexicographic.{bytes_decides}
 use Rattle.byte_nfa.specs.Steps.{HasNumber}
-use Rattle.byte_keys.specs.Entries.{Entry, entry, indexes_under}
-use Rattle.byte_keys.proofs.lemmas.Entries.{with_index}
-use Rattle.byte_keys.proofs.lemmas.Entries.{indexes_added}
+use Rattle.glob_path.specs.Entries.{Entry, entry, indexes_under}
+use Rattle.glob_path.proofs.lemmas.Entries.{with_index}
+use Rattle.glob_path.proofs.lemmas.Entries.{indexes_added}
 use Rattle.set_matcher.specs.inner.Automata.{first, slot_of}
 
 pub first_in : (xs : List ℕ) (s : ℕ) → first xs ≡ Some s → HasNumber s xs

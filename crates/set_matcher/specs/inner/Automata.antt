@@ -8,7 +8,7 @@ use Rattle.byte_nfa.specs.Steps.{HasNumber, NfaValue}
 use Rattle.byte_nfa.specs.Runs.{size, max_reads}
 use Rattle.bit_sets.specs.Indexes.{has_index, index_capacity}
 use Rattle.bit_sets.specs.declared.index_set.IndexSet.{IndexSet}
-use Rattle.byte_keys.specs.Entries.{Entry, indexes_under}
+use Rattle.glob_path.specs.Entries.{Entry, indexes_under}
 use Rattle.glob_syntax.specs.After.{MeanAfter}
 use Rattle.glob_strategy.specs.IndexedTokens.{SomeMeanAfter}
 use Rattle.glob_strategy.specs.IndexedTokens.{IndexedTokens, SomeMatches, IsFor}

@@ -4,7 +4,7 @@ use Rattle.std.specs.BTreeMap.{BTreeMap, get_by}
 use Rattle.std.specs.Cmp.Lexicographic.{slice_cmp}
 use Rattle.std.specs.Ordering.{nat_cmp}
 use Rattle.std.proofs.Common.{Vec}
-use Rattle.byte_keys.specs.Entries.{Entry}
+use Rattle.glob_path.specs.Entries.{Entry}
 use Rattle.set_matcher.specs.inner.Automata.{slot_of}
 
 -- the slot under an extension, if any

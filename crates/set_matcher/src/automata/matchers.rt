@@ -12,16 +12,15 @@ ghost use Rattle.glob_syntax.specs.Views.{flats, tokens_of};
 ghost use Rattle.glob_syntax.specs.inner.Weight.{weight};
 ghost use Rattle.set_matcher.specs.inner.Automata.{AddsReads, AddsTokensTo, AreFor, KeepsTokens, TellsSomeAfter, before_extension, nfa_at, nfa_under, max_size, slot_of, total_reads};
 ghost use Rattle.set_matcher.specs.inner.Caches.{AreSlotCaches};
-ghost use Rattle.byte_keys.specs.Entries.{entry};
+ghost use Rattle.glob_path.specs.Entries.{entry};
 ghost use Rattle.set_matcher.specs.inner.ExtensionSlots.{HasSlots};
 
 use crate::caches::SlotCaches;
 use crate::path_part::before_extension;
 use bit_sets::{IndexSet, Visits};
-use byte_keys::{Table, TableBuilder};
-use byte_nfa::{Builder, StateSets};
+use byte_nfa::Builder;
 use glob_matching::Compiled;
-use glob_path::PathParts;
+use glob_path::{PathParts, Table, TableBuilder};
 use glob_strategy::{add_tokens, new_builder};
 use glob_syntax::{Options, Token};
 use std::alloc::{AllocError, Global};
@@ -435,7 +434,7 @@ pub struct ExtensionSlots {
 
 impl Model for ExtensionSlots {
     ghost use Rattle.std.specs.Prelude.{List};
-    ghost use Rattle.byte_keys.specs.Entries.{Entry};
+    ghost use Rattle.glob_path.specs.Entries.{Entry};
     ghost use Rattle.set_matcher.specs.inner.ExtensionSlots.{HasSlots};
 
     ghost Value = { List Entry };

@@ -1,6 +1,6 @@
 use Rattle.std.proofs.Common.{◌≡◌, Some, None, ap, sym, arith, ◌∙◌}
 use Rattle.std.specs.Prelude.{length, slice_index_or}
-use Rattle.byte_keys.specs.Entries.{indexes_under}
+use Rattle.glob_path.specs.Entries.{indexes_under}
 use Rattle.set_matcher.specs.inner.Automata.{ExtensionParts, first, slot_of}
 use Rattle.set_matcher.proofs.lemmas.Tables.{first_in, first_none, first_some}
 use Rattle.set_matcher.proofs.automata.matchers.ExtensionMatchers.slot_of.Goals as goal

@@ -4,7 +4,7 @@ use Rattle.glob_syntax.specs.Views.{tokens_of}
 use Rattle.glob_syntax.specs.inner.Weight.{weight}
 use Rattle.byte_nfa.specs.Runs.{max_reads}
 use Rattle.byte_nfa.specs.Steps.{NfaValue}
-use Rattle.byte_keys.specs.Entries.{indexes_under}
+use Rattle.glob_path.specs.Entries.{indexes_under}
 use Rattle.glob_strategy.specs.IndexedTokens.{IsFor, indexed}
 use Rattle.set_matcher.specs.inner.Automata.{ExtensionParts, KeepsTokens, nfa_under, slot_of, total_reads}
 use Rattle.set_matcher.proofs.lemmas.Tables.{first_in}

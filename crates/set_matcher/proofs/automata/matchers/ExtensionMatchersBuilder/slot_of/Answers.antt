@@ -2,7 +2,7 @@ use Rattle.std.proofs.Common.{◌≡◌, ◌∷◌, ◌++◌, [], None, length, 
 use Rattle.glob_strategy.specs.IndexedTokens.{IndexedTokens}
 use Rattle.byte_nfa.specs.Runs.{max_reads}
 use Rattle.byte_nfa.specs.Steps.{NfaValue}
-use Rattle.byte_keys.specs.Entries.{Entry, entry}
+use Rattle.glob_path.specs.Entries.{Entry, entry}
 use Rattle.set_matcher.specs.inner.Automata.{ExtensionParts, AreFor, AreExtensionMatchers, KeepsTokens, nfa_under, slot_of, total_reads}
 use Rattle.set_matcher.proofs.lemmas.Tables.{first_of_key}
 use Rattle.set_matcher.proofs.lemmas.ExtensionMatchers.{extension_parts, matchers_cleared, matchers_push, matchers_insert, slot_keeps, slot_reads, total_push}

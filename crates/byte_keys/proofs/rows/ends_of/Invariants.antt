@@ -1,6 +1,0 @@
-use Rattle.std.proofs.Common.{take}
-use Rattle.byte_keys.specs.inner.Ends.{HasEnds}
-use Rattle.byte_keys.proofs.rows.ends_of.Given as goal
-
-abbrev pub invariant-loop-row : goal.invariant-loop-row
-invariant-loop-row l = HasEnds l.bytes (take l.row-index l.rows) l.ends

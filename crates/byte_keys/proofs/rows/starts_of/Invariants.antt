@@ -1,5 +1,0 @@
-use Rattle.byte_keys.proofs.lemmas.Starts.{StartsTo}
-use Rattle.byte_keys.proofs.rows.starts_of.Given as goal
-
-abbrev pub invariant-loop-bucket : goal.invariant-loop-bucket
-invariant-loop-bucket l = StartsTo l.buckets l.starts.items l.from l.bucket

@@ -1,9 +1,0 @@
-use Rattle.std.proofs.Common.{map}
-use Rattle.byte_keys.specs.inner.Building.{rests_of, AreSpans, Stands}
-use Rattle.byte_keys.proofs.tree.Tree.build.Given as goal
-
-abbrev pub invariant-loop-depth : goal.invariant-loop-depth
-invariant-loop-depth l = record {
-  stands : Stands l.texts l.tree (map (rests_of l.texts l.depth) l.level.items);
-  spans : AreSpans l.texts l.depth l.level.items;
-}

@@ -1,7 +1,0 @@
-use Rattle.std.proofs.Common.{◌≡◌}
-use Rattle.std.specs.List.{AllWithin}
-use Rattle.byte_keys.specs.inner.Building.{next_of}
-use Rattle.byte_keys.proofs.tree.end_of_run.Given as goal
-
-abbrev pub invariant-loop-at : goal.invariant-loop-at
-invariant-loop-at l = AllWithin (λ t. next_of l.depth t ≡ l.next) l.texts l.span.from l.at

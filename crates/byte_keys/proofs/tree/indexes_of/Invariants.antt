@@ -1,5 +1,0 @@
-use Rattle.std.proofs.Common.{◌≡◌, map, take}
-use Rattle.byte_keys.proofs.tree.indexes_of.Given as goal
-
-abbrev pub invariant-loop-text : goal.invariant-loop-text
-invariant-loop-text l = l.indexes.items ≡ map (λ t. t.index) (take l.text-index l.texts)

@@ -1,6 +1,0 @@
-use Rattle.std.proofs.Common.{◌+◌, ◌≤◌, ◌<◌, ◌^◌, length}
-use Rattle.std.specs.List.{AllWithin}
-use Rattle.byte_keys.proofs.tree.longest.Given as goal
-
-abbrev pub invariant-loop-text : goal.invariant-loop-text
-invariant-loop-text l = AllWithin (λ t. length t.bytes.items ≤ l.longest) l.texts 0 l.text-index × (l.longest + 1 < 2 ^ 64)

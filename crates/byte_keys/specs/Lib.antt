@@ -1,4 +1,0 @@
-pub mod Entries
-pub mod Texts
-pub mod Laws
-pub mod inner

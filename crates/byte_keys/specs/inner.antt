@@ -1,9 +1,0 @@
-pub mod Pairs
-pub mod Rows
-pub mod Starts
-pub mod Ends
-pub mod Tables
-pub mod Anchors
-pub mod Nodes
-pub mod IsTrieOf
-pub mod Building

@@ -1,0 +1,10 @@
+use Rattle.std.proofs.Common.{◌+◌, ◌++◌, map, drop}
+use Rattle.glob_path.specs.inner.Building.{rests_of, AreSpans, Stands}
+use Rattle.glob_path.proofs.tree.Tree.push_level.Given as goal
+
+abbrev pub invariant-loop-span : goal.invariant-loop-span
+invariant-loop-span l = record {
+  stands : Stands l.texts l.self (map (rests_of l.texts l.depth) (drop l.span-index l.level) ++ map (rests_of l.texts (l.depth + 1)) l.next.items);
+  left : AreSpans l.texts l.depth (drop l.span-index l.level);
+  next : AreSpans l.texts (l.depth + 1) l.next.items;
+}

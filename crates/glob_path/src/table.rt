@@ -1,0 +1,102 @@
+//! A table of byte keys.
+
+ghost use Rattle.std.specs.Prelude.{◌≡◌, ℕ, List, ◌+◌, ◌^◌, ◌<◌, ◌≤◌, max, [], ◌↔◌, IfOk, IsTrue, length};
+ghost use Rattle.glob_path.specs.Entries.{Entry, indexes_under};
+ghost use Rattle.glob_path.specs.inner.Tables.{AreContents, HasContents};
+
+use crate::builder::TableBuilder;
+use crate::pairs::part;
+use crate::rows::{Directory, Ends, Row, find};
+use bit_sets::Visits;
+use std::alloc::{AllocError, Global};
+use std::marker::Model;
+use std::snapshot::Snapshot;
+
+/// Indexes under byte keys: under each key the indexes that were added with it, in the order of the additions.
+#[derive(Drop)]
+pub struct Table {
+    /// It is `None` if there are no entries. It is in a box, so that little is moved with a table.
+    contents: Option<Box<Contents>>,
+    entries: Snapshot<TableBuilder>,
+}
+
+/// The keys of a table, each once, and the indexes under them.
+#[derive(Drop)]
+pub(crate) struct Contents {
+    pub(crate) bytes: Vec<u8>,
+    pub(crate) rows: Vec<Row>,
+    pub(crate) ends: Ends,
+    pub(crate) directory: Directory,
+    pub(crate) indexes: Vec<usize>,
+}
+
+impl Model for Table {
+    ghost Value = { List Entry };
+
+    ghost view = { λ t. t.entries.value };
+
+    ghost invariant = { λ t. HasContents t.contents t.entries.value };
+}
+
+impl Table {
+    /// Returns the table of a builder's entries.
+    pub(crate) fn of(
+        alloc: Global,
+        contents: Contents,
+        entries: Snapshot<TableBuilder>,
+    ) -> Result<Table, AllocError>
+        requires { AreContents contents entries.value }
+        ensures { IfOk result (λ table. table ≡ entries.value) }
+    {
+        Ok(Table {
+            contents: Some(Box::new(alloc, contents)?),
+            entries,
+        })
+    }
+
+    /// Returns the table of a builder that has no entries. It allocates nothing.
+    pub(crate) fn nothing(entries: Snapshot<TableBuilder>) -> Table
+        requires { entries.value ≡ [] }
+        ensures { result ≡ [] }
+    {
+        Table {
+            contents: None,
+            entries,
+        }
+    }
+
+    /// Returns the indexes under a key in the order of the additions, or none if the table does not have the key.
+    ///
+    /// It is a visit, and copies nothing. `compared` counts the keys that `key` is compared with: with fewer than `2^k` entries
+    /// these are at most `k`, or at most 8 if `k` is less. A comparison reads at most `key.len()` bytes of another key.
+    pub fn get(&self, key: &[u8], visits: &mut Visits, compared: &mut Visits) -> &[usize]
+        ensures indexes { result.now ≡ indexes_under self.now key.now }
+        ensures visits { visits.new ≡ visits.old + 1 }
+        ensures compared { (k : ℕ) → length self.now < 2 ^ k
+            → compared.new ≤ compared.old + max 8 k }
+        ensures counted { compared.old ≤ compared.new }
+    {
+        visits.tick();
+        let Some(contents) = &self.contents else {
+            return &[];
+        };
+        match find(
+            &contents.bytes,
+            &contents.rows,
+            &contents.ends,
+            &contents.directory,
+            key,
+            compared,
+        ) {
+            Some(row) => part(&contents.indexes, row.from, row.to),
+            None => &[],
+        }
+    }
+
+    /// Returns whether there are no entries.
+    pub fn is_empty(&self) -> bool
+        ensures { IsTrue result ↔ (self.now ≡ []) }
+    {
+        self.contents.is_none()
+    }
+}
