@@ -1,9 +1,9 @@
 //! The folders of keys: below which folders some of many keys are.
 
-ghost use Rattle.std.specs.Prelude.{◌≡◌, ◌+◌, ◌++◌, ◌↔◌, map, IsTrue, IfOk, OnOk, ℕ, List};
+ghost use Rattle.std.specs.Prelude.{◌≡◌, ◌+◌, ◌⊎◌, ◌↔◌, [], map, Contains, IsTrue, IfOk, OnOk, ℕ, List};
 ghost use Rattle.glob_path.specs.Texts.{entry_of};
 ghost use Rattle.glob_path.specs.Below.{folder_start};
-ghost use Rattle.glob_strategy.specs.inner.Folders.{AreFolders, AreRising, SomeBelow, bytes_of, place_of, shown_of, start_of};
+ghost use Rattle.glob_strategy.specs.inner.Folders.{AddsFolders, AreFolders, AreRising, SomeBelow, bytes_of, place_of, shown_of, start_of};
 
 use bit_sets::Visits;
 use glob_path::{PathParts, Text};
@@ -11,8 +11,8 @@ use std::alloc::{AllocError, Global};
 use std::cmp::Ordering;
 use std::marker::Model;
 
-/// The folders of keys, each once, in the order of their bytes. The folder of a key is the key up to its last `/`, or nothing if
-/// it has no `/`.
+/// The folders of keys, each once, in the order of their bytes. The folder of a key is the key up to its last `/`. A key without
+/// `/` has none.
 #[derive(Drop)]
 pub struct Folders {
     texts: Vec<Vec<u8>>,
@@ -30,15 +30,15 @@ impl Folders {
     /// Returns the folders of paths and of beginnings.
     ///
     /// The time is linear in the bytes of all keys, except that their folders are sorted. A copy is kept of each folder that
-    /// differs from the others; until then, a few words are taken for each key.
+    /// differs from the others; until then, two words are taken for each key whose folder differs from that of the key before.
     pub fn new(alloc: Global, paths: &[Text], prefixes: &[Text]) -> Result<Folders, AllocError>
         ensures { IfOk result
             (λ folders. AreFolders folders (map entry_of paths.now) (map entry_of prefixes.now)) }
     {
-        let mut starts = Vec::with_capacity(alloc, paths.len())?;
+        let mut starts = Vec::new(alloc);
         push_starts(&mut starts, paths)?;
         push_starts(&mut starts, prefixes)?;
-        starts.sort()?;
+        starts.sort_unstable();
         starts.dedup();
         Ok(Folders {
             texts: copies(alloc, &starts)?,
@@ -60,16 +60,32 @@ impl Folders {
     }
 }
 
-/// Adds the folder of each key.
+/// Adds the folders of keys.
 fn push_starts<'k>(starts: &mut Vec<&'k [u8]>, keys: &'k [Text]) -> Result<(), AllocError>
     ensures { OnOk result
-        (shown_of starts.new.items
-        ≡ shown_of starts.old.items ++ map (λ t. start_of t.bytes.items) keys.now) }
+        (AddsFolders (shown_of starts.old.items) (shown_of starts.new.items)
+        (map entry_of keys.now)) }
 {
     for key in keys {
-        starts.push(start_of(&key.bytes))?;
+        let start = start_of(&key.bytes);
+        if !is_known(starts, start) {
+            starts.push(start)?;
+        }
     }
     Ok(())
+}
+
+/// Returns whether a start of a key need not be added: it has no folder, or it is the last one that was added.
+fn is_known(starts: &[&[u8]], start: &[u8]) -> bool
+    ensures { IsTrue result → (start.now ≡ []) ⊎ Contains (shown_of starts.now) start.now }
+{
+    if start.is_empty() {
+        return true;
+    }
+    match starts.last() {
+        Some(last) => *last == start,
+        None => false,
+    }
 }
 
 /// Returns a key up to its last `/`, or nothing if it has no `/`.

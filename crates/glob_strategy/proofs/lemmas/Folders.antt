@@ -1,7 +1,7 @@
 -- The folders of keys: the start of a key, the place of a text in the order, and what a list of them says.
 use Rattle.std.proofs.Common.{◌≡◌, ℕ, zero, suc, ◌+◌, ◌-◌, ◌≤◌, ◌<◌, ◌⊎◌, inl, inr, Option, Some, None, Bool, true, false, cond, List, [], ◌∷◌, ◌++◌, map, length, take, drop, get_or, length-drop, Vec, IsTrue, refl, ap, sym, subst, ◌∙◌, append_assoc, arith}
 use Rattle.std.specs.Prelude.{◌↔◌, Contains, is_ok}
-use Rattle.std.specs.List.{AllByRecursion, dedup, dedup_from}
+use Rattle.std.specs.List.{AllByRecursion, dedup, dedup_from, slice_get}
 use Rattle.std.specs.List.Sorted.{IsBinarySearchResult, IsNonDecreasingBy, IsPermutation, IsSearchInRange, IsSorted, IsStrictlySortedBy}
 use Rattle.std.specs.Str.{bytes_eq}
 use Rattle.std.specs.Cmp.Lexicographic.{slice_cmp, bytes_decides, nat_list_eq_equiv, on_texts, texts_ties}
@@ -11,8 +11,10 @@ use Rattle.std.specs.declared.cmp.Ordering.TheVariants.{Less, Equal, Greater}
 use Rattle.std.specs.declared.result.Result.{Result}
 use Rattle.std.specs.declared.result.Result.TheVariants.{Ok, Err}
 use Rattle.std.proofs.Math.Logic.{⊎_elim}
+use Rattle.std.proofs.Math.Seq.{take-suc}
 use Rattle.std.proofs.lemmas.Bool.{cases_lt}
 use Rattle.std.proofs.lemmas.Cmp.{ranked}
+use Rattle.std.proofs.lemmas.Option.{get_or_from_slice_get, slice_get_within}
 use Rattle.std.proofs.lemmas.List.{length-append, length-map, get_or-map, take-append-drop}
 use Rattle.std.proofs.lemmas.List.Elements.{Contains-append_cases, Contains-append_left, Contains-append_right}
 use Rattle.std.proofs.lemmas.List.Sorted.{Contains-permutation, IsPermutation-map, IsPermutation-sym}
@@ -24,7 +26,7 @@ use Rattle.glob_path.specs.Texts.{entry_of}
 use Rattle.glob_path.specs.Below.{BeginsWith, folder_start}
 use Rattle.glob_path.specs.PathParts.{after_position, is_separator, last_component, last_position, with_first}
 use Rattle.glob_strategy.specs.KeysBelow.{HasKey}
-use Rattle.glob_strategy.specs.inner.Folders.{AreFolders, AreRising, IsBelow, SomeBelow, bytes_of, place_of, shown_of, start_of}
+use Rattle.glob_strategy.specs.inner.Folders.{AddsFolders, AreFolders, AreRising, IsBelow, SomeBelow, bytes_of, place_of, shown_of, start_of}
 
 -- ---- keys below a folder
 
@@ -237,21 +239,28 @@ key_cons P e es = (to, from)
     from (inl p) = (e.key, e.index, (0, omega arith, refl), p)
     from (inr (key, i, (k, lt, is), p)) = (key, i, (suc k, omega (arith, lt), is), p)
 
--- the starts of keys are below the folders that a key is below
-starts_tell : (keys : List Text) (f : List ℕ) → SomeBelow (map (λ t. start_of t.bytes.items) keys) f ↔ HasKey (IsBelow f) (map entry_of keys)
-starts_tell [] f = (λ h. absurd (omega (arith, h.1.1)), λ h. absurd (omega (arith, h.2.1)))
-starts_tell (t ∷ ts) f = (to (starts_tell ts f), from (starts_tell ts f))
+key_snoc : (P : List ℕ → Type 0) (ts : List Text) (t : Text) → HasKey P (map entry_of (ts ++ t ∷ [])) ↔ (HasKey P (map entry_of ts) ⊎ P t.bytes.items)
+key_snoc P [] t = (
+  λ h. ⊎_elim {C = HasKey P [] ⊎ P t.bytes.items} (λ p. inr p) (λ more. inl more) ((key_cons P (entry_of t) []).0 h),
+  λ h. (key_cons P (entry_of t) []).1 (⊎_elim {C = P t.bytes.items ⊎ HasKey P []} (λ none. inr none) (λ p. inl p) h),
+)
+key_snoc P (x ∷ xs) t = (to (key_snoc P xs t), from (key_snoc P xs t))
   where
-    later : List (List ℕ)
-    later = map (λ t. start_of t.bytes.items) ts
+    later : List Entry
+    later = map entry_of xs
 
-    to : (SomeBelow later f ↔ HasKey (IsBelow f) (map entry_of ts)) → SomeBelow (start_of t.bytes.items ∷ later) f → HasKey (IsBelow f) (entry_of t ∷ map entry_of ts)
-    to rest h = (key_cons (IsBelow f) (entry_of t) (map entry_of ts)).1
-        (⊎_elim {C = IsBelow f t.bytes.items ⊎ HasKey (IsBelow f) (map entry_of ts)} (λ first. inl ((start_tells f t.bytes.items).0 first)) (λ more. inr (rest.0 more)) ((some_cons (start_of t.bytes.items) later f).0 h))
+    all : List Entry
+    all = map entry_of (xs ++ t ∷ [])
 
-    from : (SomeBelow later f ↔ HasKey (IsBelow f) (map entry_of ts)) → HasKey (IsBelow f) (entry_of t ∷ map entry_of ts) → SomeBelow (start_of t.bytes.items ∷ later) f
-    from rest h = (some_cons (start_of t.bytes.items) later f).1
-        (⊎_elim {C = IsBelow f (start_of t.bytes.items) ⊎ SomeBelow later f} (λ first. inl ((start_tells f t.bytes.items).1 first)) (λ more. inr (rest.1 more)) ((key_cons (IsBelow f) (entry_of t) (map entry_of ts)).0 h))
+    to : (HasKey P all ↔ (HasKey P later ⊎ P t.bytes.items)) → HasKey P (entry_of x ∷ all) → HasKey P (entry_of x ∷ later) ⊎ P t.bytes.items
+    to rest h = ⊎_elim {C = HasKey P (entry_of x ∷ later) ⊎ P t.bytes.items} (λ first. inl ((key_cons P (entry_of x) later).1 (inl first)))
+        (λ more. ⊎_elim {C = HasKey P (entry_of x ∷ later) ⊎ P t.bytes.items} (λ some. inl ((key_cons P (entry_of x) later).1 (inr some))) (λ p. inr p) (rest.0 more))
+        ((key_cons P (entry_of x) all).0 h)
+
+    from : (HasKey P all ↔ (HasKey P later ⊎ P t.bytes.items)) → HasKey P (entry_of x ∷ later) ⊎ P t.bytes.items → HasKey P (entry_of x ∷ all)
+    from rest (inl some) = (key_cons P (entry_of x) all).1
+        (⊎_elim {C = P x.bytes.items ⊎ HasKey P all} (λ first. inl first) (λ more. inr (rest.1 (inl more))) ((key_cons P (entry_of x) later).0 some))
+    from rest (inr p) = (key_cons P (entry_of x) all).1 (inr (rest.1 (inr p)))
 
 some_append : (xs ys : List (List ℕ)) (f : List ℕ) → SomeBelow (xs ++ ys) f ↔ (SomeBelow xs f ⊎ SomeBelow ys f)
 some_append xs ys f = (
@@ -259,30 +268,110 @@ some_append xs ys f = (
   λ h. ⊎_elim {C = SomeBelow (xs ++ ys) f} (λ front. (front.0, Contains-append_left xs ys front.0 front.1, front.2)) (λ back. (back.0, Contains-append_right xs ys back.0 back.1, back.2)) h,
 )
 
--- the texts that are kept of the starts of paths and beginnings
-pub folders_tell : (paths prefixes : List Text) (starts sorted kept : List (Bor (List ℕ))) (texts : List (List ℕ))
-    → shown_of starts ≡ map (λ t. start_of t.bytes.items) paths ++ map (λ t. start_of t.bytes.items) prefixes
-    → IsPermutation starts sorted → kept ≡ dedup same_shown sorted → texts ≡ shown_of kept → AreFolders texts (map entry_of paths) (map entry_of prefixes)
-folders_tell paths prefixes starts sorted kept texts from moved once is = record {
+no_text : (f : List ℕ) → SomeBelow [] f → ⊥
+no_text f h = omega (arith, h.1.1)
+
+-- ---- folders that are added
+
+-- no folder is above the empty text
+not_above : (f : List ℕ) → IsBelow f [] → ⊥
+not_above f h = omega (arith, shorter f [] h)
+
+-- the start of a key is added
+adds_start : (old texts : List (List ℕ)) (ts : List Text) (t : Text) → AddsFolders old texts (map entry_of ts) → AddsFolders old (texts ++ start_of t.bytes.items ∷ []) (map entry_of (ts ++ t ∷ []))
+adds_start old texts ts t adds f = (to, from)
+  where
+    start : List ℕ
+    start = start_of t.bytes.items
+
+    Key : List Entry → Type 0
+    Key keys = HasKey (IsBelow f) keys
+
+    to : SomeBelow (texts ++ start ∷ []) f → SomeBelow old f ⊎ Key (map entry_of (ts ++ t ∷ []))
+    to h = ⊎_elim {C = SomeBelow old f ⊎ Key (map entry_of (ts ++ t ∷ []))}
+        (λ front. ⊎_elim {C = SomeBelow old f ⊎ Key (map entry_of (ts ++ t ∷ []))} (λ o. inl o) (λ k. inr ((key_snoc (IsBelow f) ts t).1 (inl k))) ((adds f).0 front))
+        (λ back. ⊎_elim {C = SomeBelow old f ⊎ Key (map entry_of (ts ++ t ∷ []))} (λ here. inr ((key_snoc (IsBelow f) ts t).1 (inr ((start_tells f t.bytes.items).0 here)))) (λ none. absurd (no_text f none))
+        ((some_cons start [] f).0 back))
+        ((some_append texts (start ∷ []) f).0 h)
+
+    from : SomeBelow old f ⊎ Key (map entry_of (ts ++ t ∷ [])) → SomeBelow (texts ++ start ∷ []) f
+    from (inl o) = (some_append texts (start ∷ []) f).1 (inl ((adds f).1 (inl o)))
+    from (inr k) = (some_append texts (start ∷ []) f).1 (⊎_elim {C = SomeBelow texts f ⊎ SomeBelow (start ∷ []) f} (λ more. inl ((adds f).1 (inr more)))
+        (λ here. inr ((some_cons start [] f).1 (inl ((start_tells f t.bytes.items).1 here)))) ((key_snoc (IsBelow f) ts t).0 k))
+
+-- the start of a key is empty, or is one of the texts
+adds_known : (old texts : List (List ℕ)) (ts : List Text) (t : Text) → (start_of t.bytes.items ≡ []) ⊎ Contains texts (start_of t.bytes.items)
+    → AddsFolders old texts (map entry_of ts) → AddsFolders old texts (map entry_of (ts ++ t ∷ []))
+adds_known old texts ts t known adds f = (to, from)
+  where
+    start : List ℕ
+    start = start_of t.bytes.items
+
+    Key : List Entry → Type 0
+    Key keys = HasKey (IsBelow f) keys
+
+    to : SomeBelow texts f → SomeBelow old f ⊎ Key (map entry_of (ts ++ t ∷ []))
+    to h = ⊎_elim {C = SomeBelow old f ⊎ Key (map entry_of (ts ++ t ∷ []))} (λ o. inl o) (λ k. inr ((key_snoc (IsBelow f) ts t).1 (inl k))) ((adds f).0 h)
+
+    here : IsBelow f start → SomeBelow texts f
+    here below = ⊎_elim {C = SomeBelow texts f} (λ empty. absurd (not_above f (subst (IsBelow f) empty below))) (λ has. (start, has, below)) known
+
+    from : SomeBelow old f ⊎ Key (map entry_of (ts ++ t ∷ [])) → SomeBelow texts f
+    from (inl o) = (adds f).1 (inl o)
+    from (inr k) = ⊎_elim {C = SomeBelow texts f} (λ more. (adds f).1 (inr more)) (λ below. here ((start_tells f t.bytes.items).1 below)) ((key_snoc (IsBelow f) ts t).0 k)
+
+next_key : (keys : List Text) (k : ℕ) (t : Text) → k < length keys → get_or keys k t ≡ t → take (k + 1) keys ≡ take k keys ++ t ∷ []
+next_key keys k t lt is = let next : k + 1 ≡ suc k = omega arith in ap (λ n. take n keys) next ∙ take-suc keys k t lt ∙ ap (λ x. take k keys ++ x ∷ []) is
+
+shown_push : (starts : List (Bor (List ℕ))) (b : Bor (List ℕ)) → shown_of (starts ++ b ∷ []) ≡ shown_of starts ++ b.now ∷ []
+shown_push [] b = refl
+shown_push (x ∷ xs) b = ap (λ l. x.now ∷ l) (shown_push xs b)
+
+-- one more key of a list, and the starts with its start or without it
+pub next_start : (old : List (List ℕ)) (starts new : List (Bor (List ℕ))) (keys : List Text) (k : ℕ) (t : Text) (start : Bor (List ℕ)) → k < length keys → get_or keys k t ≡ t
+    → start.now ≡ start_of t.bytes.items → new ≡ starts ++ start ∷ [] → AddsFolders old (shown_of starts) (map entry_of (take k keys)) → AddsFolders old (shown_of new) (map entry_of (take (k + 1) keys))
+next_start old starts new keys k t start lt is of_key grown adds =
+    subst (λ all. AddsFolders old (shown_of new) (map entry_of all)) (sym (next_key keys k t lt is))
+    (subst (λ texts. AddsFolders old texts (map entry_of (take k keys ++ t ∷ []))) (sym (ap shown_of grown ∙ shown_push starts start ∙ ap (λ x. shown_of starts ++ x ∷ []) of_key))
+    (adds_start old (shown_of starts) (take k keys) t adds))
+
+pub next_known : (old : List (List ℕ)) (starts : List (Bor (List ℕ))) (keys : List Text) (k : ℕ) (t : Text) (start : List ℕ) → k < length keys → get_or keys k t ≡ t
+    → start ≡ start_of t.bytes.items → (start ≡ []) ⊎ Contains (shown_of starts) start → AddsFolders old (shown_of starts) (map entry_of (take k keys)) → AddsFolders old (shown_of starts) (map entry_of (take (k + 1) keys))
+next_known old starts keys k t start lt is of_key known adds =
+    subst (λ all. AddsFolders old (shown_of starts) (map entry_of all)) (sym (next_key keys k t lt is))
+    (adds_known old (shown_of starts) (take k keys) t (subst (λ x. (x ≡ []) ⊎ Contains (shown_of starts) x) of_key known) adds)
+
+-- the last item of a list is one of those that it shows
+pub shows_last : (starts : List (Bor (List ℕ))) (last : Bor (List ℕ)) → slice_get starts (length starts - 1) ≡ Some last → Contains (shown_of starts) last.now
+shows_last starts last is =
+    let within = slice_get_within starts (length starts - 1) last is in (
+      length starts - 1,
+      omega (arith, within, length-map starts (λ (b : Bor (List ℕ)). b.now)),
+      get_or-map (λ (b : Bor (List ℕ)). b.now) starts (length starts - 1) last last.now within ∙ ap (λ (b : Bor (List ℕ)). b.now) (get_or_from_slice_get starts (length starts - 1) last last is),
+    )
+
+-- the texts that are kept of the folders of paths and beginnings
+pub folders_tell : (paths prefixes : List Entry) (some : List (List ℕ)) (starts sorted kept : List (Bor (List ℕ))) (texts : List (List ℕ))
+    → AddsFolders [] some paths → AddsFolders some (shown_of starts) prefixes
+    → IsPermutation starts sorted → kept ≡ dedup same_shown sorted → texts ≡ shown_of kept → AreFolders texts paths prefixes
+folders_tell paths prefixes some starts sorted kept texts of_paths of_prefixes moved once is = record {
   tells = λ f. (λ h. to_keys f (moved_to f h), λ h. moved_from f (from_keys f h));
 }
   where
-    all : List (List ℕ)
-    all = map (λ t. start_of t.bytes.items) paths ++ map (λ t. start_of t.bytes.items) prefixes
+    moved_to : (f : List ℕ) → SomeBelow texts f → SomeBelow (shown_of starts) f
+    moved_to f h = (h.0, (kept_same starts sorted kept moved once h.0).0 (subst (λ l. Contains l h.0) is h.1), h.2)
 
-    moved_to : (f : List ℕ) → SomeBelow texts f → SomeBelow all f
-    moved_to f h = (h.0, subst (λ l. Contains l h.0) from ((kept_same starts sorted kept moved once h.0).0 (subst (λ l. Contains l h.0) is h.1)), h.2)
+    moved_from : (f : List ℕ) → SomeBelow (shown_of starts) f → SomeBelow texts f
+    moved_from f h = (h.0, subst (λ l. Contains l h.0) (sym is) ((kept_same starts sorted kept moved once h.0).1 h.1), h.2)
 
-    moved_from : (f : List ℕ) → SomeBelow all f → SomeBelow texts f
-    moved_from f h = (h.0, subst (λ l. Contains l h.0) (sym is) ((kept_same starts sorted kept moved once h.0).1 (subst (λ l. Contains l h.0) (sym from) h.1)), h.2)
+    to_keys : (f : List ℕ) → SomeBelow (shown_of starts) f → HasKey (IsBelow f) paths ⊎ HasKey (IsBelow f) prefixes
+    to_keys f h = ⊎_elim {C = HasKey (IsBelow f) paths ⊎ HasKey (IsBelow f) prefixes}
+        (λ front. ⊎_elim {C = HasKey (IsBelow f) paths ⊎ HasKey (IsBelow f) prefixes} (λ none. absurd (no_text f none)) (λ p. inl p) ((of_paths f).0 front))
+        (λ b. inr b) ((of_prefixes f).0 h)
 
-    to_keys : (f : List ℕ) → SomeBelow all f → HasKey (IsBelow f) (map entry_of paths) ⊎ HasKey (IsBelow f) (map entry_of prefixes)
-    to_keys f h = ⊎_elim {C = HasKey (IsBelow f) (map entry_of paths) ⊎ HasKey (IsBelow f) (map entry_of prefixes)} (λ p. inl ((starts_tell paths f).0 p)) (λ b. inr ((starts_tell prefixes f).0 b))
-        ((some_append (map (λ t. start_of t.bytes.items) paths) (map (λ t. start_of t.bytes.items) prefixes) f).0 h)
-
-    from_keys : (f : List ℕ) → HasKey (IsBelow f) (map entry_of paths) ⊎ HasKey (IsBelow f) (map entry_of prefixes) → SomeBelow all f
-    from_keys f h = (some_append (map (λ t. start_of t.bytes.items) paths) (map (λ t. start_of t.bytes.items) prefixes) f).1
-        (⊎_elim {C = SomeBelow (map (λ t. start_of t.bytes.items) paths) f ⊎ SomeBelow (map (λ t. start_of t.bytes.items) prefixes) f} (λ p. inl ((starts_tell paths f).1 p)) (λ b. inr ((starts_tell prefixes f).1 b)) h)
+    from_keys : (f : List ℕ) → HasKey (IsBelow f) paths ⊎ HasKey (IsBelow f) prefixes → SomeBelow (shown_of starts) f
+    from_keys f (inl p) = (of_prefixes f).1 (inl ((of_paths f).1 (inr p)))
+    from_keys f (inr b) = (of_prefixes f).1 (inr b)
 
 -- ---- the search
 

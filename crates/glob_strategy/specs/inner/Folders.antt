@@ -28,6 +28,10 @@ SomeBelow texts f = (text : List ℕ) × Contains texts text × IsBelow f text
 pub record AreFolders (texts : List (List ℕ)) (paths prefixes : List Entry) : Type 0 where
   pub tells : (f : List ℕ) → SomeBelow texts f ↔ (HasKey (IsBelow f) paths ⊎ HasKey (IsBelow f) prefixes)
 
+-- with the new texts, some text is below the folders that some old text or some key is below, and below no others
+abbrev pub AddsFolders : List (List ℕ) → List (List ℕ) → List Entry → Type 0
+AddsFolders old new keys = (f : List ℕ) → SomeBelow new f ↔ (SomeBelow old f ⊎ HasKey (IsBelow f) keys)
+
 -- the bytes of vectors and of slices
 abbrev pub bytes_of : {X : Type 0} → List (Vec ℕ X) → List (List ℕ)
 bytes_of texts = map (λ t. t.items) texts
