@@ -276,6 +276,7 @@ pub struct Source {
 }
 
 impl Model for Source {
+    ghost use Rattle.byte_nfa.specs.Steps.{NfaValue};
     ghost use Rattle.glob_matching.specs.inner.Source.{IsSource};
 
     ghost Value = { NfaValue };

@@ -5,8 +5,8 @@ ghost use Rattle.glob_text.specs.Errors.{out_of_memory};
 ghost use Rattle.glob_matching.specs.ScratchValue.{FitsAsBefore, HasCapacity, raised};
 
 use bit_sets::IndexSet;
-use glob_text::Error;
 use byte_nfa::StateSets;
+use glob_text::Error;
 use std::alloc::{AllocError, Global};
 use std::marker::Model;
 

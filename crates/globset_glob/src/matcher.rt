@@ -11,11 +11,11 @@ ghost use Rattle.globset_glob.specs.inner.GlobNfa.{IsAutomatonOf, IsCacheOf, IsS
 
 use crate::glob::{Glob, flat_tokens_of, options_of};
 use bit_sets::Visits;
+use byte_nfa::StateSets;
 use glob_matching::{Compiled, DEFAULT_DFA_SIZE_LIMIT, NeedsScratch, Scratch};
 use glob_path::{AsPath, Candidate, Key};
 use glob_strategy::{MatchStrategy, add_tokens, new_builder, strategy_of};
 use glob_text::Error;
-use byte_nfa::StateSets;
 use lazy_dfa::Cache;
 use std::alloc::{AllocError, Global};
 use std::fmt;
@@ -48,8 +48,8 @@ pub struct GlobMatcher {
 }
 
 impl Model for GlobMatcher {
-    ghost use Rattle.glob_text.specs.GlobMatches.{GlobValue, glob_matches};
-    ghost use Rattle.globset_glob.specs.inner.GlobNfa.{IsStrategyOfMatcher, IsCacheOf, form_states};
+    ghost use Rattle.glob_text.specs.GlobMatches.{GlobValue};
+    ghost use Rattle.globset_glob.specs.inner.GlobNfa.{IsStrategyOfMatcher};
 
     ghost Value = { GlobValue };
 
@@ -59,6 +59,8 @@ impl Model for GlobMatcher {
 }
 
 impl GlobMatcher {
+    ghost use Rattle.glob_text.specs.GlobMatches.{glob_matches};
+    ghost use Rattle.globset_glob.specs.inner.GlobNfa.{IsStrategyOfMatcher};
 
     /// Returns a matcher of a glob, at the cost of [`Glob::compile_matcher_with_limit`].
     pub(crate) fn new(glob: Glob, dfa_size_limit: usize) -> Result<GlobMatcher, Error>
@@ -482,6 +484,8 @@ pub struct MatcherSearcher {
 impl Model for MatcherSearcher {
     ghost use Rattle.std.specs.Prelude.{◌≤◌, IfSome};
     ghost use Rattle.byte_nfa.specs.Sets.{sets_capacity};
+    ghost use Rattle.glob_text.specs.GlobMatches.{GlobValue};
+    ghost use Rattle.globset_glob.specs.inner.GlobNfa.{IsCacheOf, IsStrategyOfMatcher, form_states};
 
     ghost Value = { GlobValue };
 

@@ -306,6 +306,7 @@ pub struct AutomataBuilder {
 }
 
 impl Model for AutomataBuilder {
+    ghost use Rattle.set_matcher.specs.inner.Automata.{AutomataParts};
     ghost use Rattle.set_matcher.specs.inner.Builders.{AreCollected};
 
     ghost Value = { AutomataParts };

@@ -9,8 +9,8 @@ ghost use Rattle.set_matcher.specs.inner.Automata.{AutomataParts};
 ghost use Rattle.set_matcher.specs.inner.Caches.{AreCachesOf, IsCacheAt};
 
 use bit_sets::Visits;
-use glob_matching::Compiled;
 use byte_nfa::StateSets;
+use glob_matching::Compiled;
 use lazy_dfa::Cache;
 use std::alloc::AllocError;
 use std::marker::Model;

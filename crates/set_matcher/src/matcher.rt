@@ -24,6 +24,7 @@ ghost use Rattle.set_matcher.specs.Work.{load, load_below, max_set_visits, max_s
 use crate::automata::{Automata, AutomataBuilder, Target};
 use crate::caches::Caches;
 use bit_sets::Visits;
+use byte_nfa::StateSets;
 use glob_matching::Scratch;
 use glob_path::{Candidate, PathParts};
 use glob_strategy::{
@@ -32,7 +33,6 @@ use glob_strategy::{
 };
 use glob_syntax::{Options, Token};
 use glob_text::GivenGlobs;
-use byte_nfa::StateSets;
 use std::alloc::{AllocError, Global};
 use std::marker::Model;
 use std::sync::Arc;
@@ -53,9 +53,9 @@ pub struct SetMatcher {
 }
 
 impl Model for SetMatcher {
-    ghost use Rattle.set_matcher.specs.SetMatcherValue.{SetMatcherValue, set_matcher_value, AddedGlobs};
+    ghost use Rattle.set_matcher.specs.SetMatcherValue.{SetMatcherValue, set_matcher_value};
     ghost use Rattle.set_matcher.specs.inner.Automata.{automata_or_none};
-    ghost use Rattle.set_matcher.specs.inner.SetMatcher.{KeepsMatcherOf, IsMatcherOf};
+    ghost use Rattle.set_matcher.specs.inner.SetMatcher.{KeepsMatcherOf};
 
     ghost Value = { SetMatcherValue };
 
@@ -326,6 +326,8 @@ pub struct SetMatcherBuilder {
 }
 
 impl Model for SetMatcherBuilder {
+    ghost use Rattle.set_matcher.specs.SetMatcherValue.{AddedGlobs};
+    ghost use Rattle.set_matcher.specs.inner.SetMatcher.{IsMatcherOf};
 
     ghost Value = { AddedGlobs };
 

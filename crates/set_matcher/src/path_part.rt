@@ -10,9 +10,9 @@ ghost use Rattle.set_matcher.specs.inner.Automata.{before_extension};
 ghost use Rattle.set_matcher.specs.inner.PathPart.{part_of};
 
 use bit_sets::{IndexSet, Visits};
+use byte_nfa::StateSets;
 use glob_matching::Compiled;
 use glob_path::PathParts;
-use byte_nfa::StateSets;
 use lazy_dfa::Cache;
 use std::alloc::AllocError;
 

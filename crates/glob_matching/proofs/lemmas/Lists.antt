@@ -143,4 +143,3 @@ none_waits a list states waiting none same y k = (
 )
 
 -- members in another order
-

@@ -289,6 +289,7 @@ pub struct ExtensionMatchersBuilder {
 }
 
 impl Model for ExtensionMatchersBuilder {
+    ghost use Rattle.set_matcher.specs.inner.Automata.{ExtensionParts, AreExtensionMatchers};
 
     ghost Value = { ExtensionParts };
 
