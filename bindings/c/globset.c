@@ -3,7 +3,7 @@
  *
  * It tests pointers for null, passes texts and objects on, and turns statuses into results. A pointer to an object is
  * the address in its raw handle. That address stays the same: globs and sets are lent alone, and the calls on the others
- * reach the object through the handle, which they do not write (`Owned::as_mut` in crates/globset_c). */
+ * reach the object through the handle, which they do not write (`Owned::as_mut` in crates/c_objects). */
 #include "globset_raw.h"
 
 #include "allocator.h"

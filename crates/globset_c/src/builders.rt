@@ -1,17 +1,17 @@
 //! Builders of sets.
 
-ghost use Rattle.std.specs.Prelude.{◌≡◌, ◌≢◌, Some, Err, [], ◌∷◌, ◌++◌, IfOk, IfErr, IsSome};
+ghost use Rattle.std.specs.Prelude.{◌≡◌, ◌≢◌, Some, [], ◌∷◌, ◌++◌, IsSome};
 ghost use Rattle.globset.specs.SetValue.{builder_globs, set_globs};
-ghost use Rattle.globset_c.specs.Kinds.{IfBuilder, IfGlob, IfSet, IsBuilder, IsGlob};
-ghost use Rattle.globset_c.specs.Statuses.{IsOneOf};
-ghost use Rattle.globset_c.specs.declared.object.Failure.TheVariants.{WrongKind};
+ghost use Rattle.c_objects.specs.Kinds.{IfBuilder, IfGlob, IfSet, IsBuilder, IsGlob};
+ghost use Rattle.c_objects.specs.Statuses.{IsOneOf};
 
-use crate::lent::Lent;
-use crate::making::hand_out;
-use crate::object::{Failure, Object};
-use crate::owned::Owned;
-use crate::status::{DONE, OUT_OF_MEMORY, Status, WRONG_KIND};
-use globset::{Glob, GlobSet, GlobSetBuilder};
+use c_objects::globs::copy_of;
+use c_objects::lent::Lent;
+use c_objects::making::hand_out;
+use c_objects::object::Object;
+use c_objects::owned::Owned;
+use c_objects::status::{DONE, OUT_OF_MEMORY, Status, WRONG_KIND};
+use globset::{GlobSet, GlobSetBuilder};
 use std::alloc::Global;
 
 /// Makes a builder that has no globs, and lets the caller own it.
@@ -53,23 +53,7 @@ pub extern "C" fn globset_raw_builder_add(builder: &mut Owned, glob: &mut Lent) 
             Ok(()) => DONE,
             Err(_) => OUT_OF_MEMORY,
         },
-        Err(Failure::OutOfMemory) => OUT_OF_MEMORY,
-        Err(Failure::WrongKind) => WRONG_KIND,
-    }
-}
-
-/// Returns a copy of the glob, if the object is a glob.
-pub fn copy_of(object: &Object) -> Result<Glob, Failure>
-    ensures copied { IfOk result (λ copy. IfGlob (Some object.now) (λ g. copy ≡ g)) }
-    ensures wrong_kind { IfErr result (λ why. why ≡ WrongKind → ¬ (IsGlob (Some object.now))) }
-    ensures other_kind { ¬ (IsGlob (Some object.now)) → result ≡ Err WrongKind }
-{
-    let Object::Glob(glob) = object else {
-        return Err(Failure::WrongKind);
-    };
-    match glob.glob().clone() {
-        Ok(copy) => Ok(copy),
-        Err(_) => Err(Failure::OutOfMemory),
+        Err(failure) => failure.status(),
     }
 }
 

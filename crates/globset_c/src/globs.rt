@@ -1,61 +1,29 @@
 //! Globs: reading one, what it has, and escaping a text.
 
-ghost use Rattle.std.specs.Prelude.{◌≡◌, ◌≢◌, Some, Err, [], ◌∷◌, IfOk, IfErr, OnOk, None};
+ghost use Rattle.std.specs.Prelude.{◌≡◌, ◌≢◌, Some, [], ◌∷◌};
 ghost use Rattle.std.specs.Str.{IsUtf8};
-ghost use Rattle.glob_text.specs.Errors.{IsParseErrorOf};
 ghost use Rattle.glob_text.specs.GlobMatches.{tokens_of_glob, IsRead};
 ghost use Rattle.glob_text.specs.RegexText.{regex_text};
-ghost use Rattle.globset_c.specs.Errors.{IsErrorOf};
-ghost use Rattle.globset_c.specs.Kinds.{IfGlob, IsGlob};
-ghost use Rattle.globset_c.specs.Options.{glob_of, options_of, IsKnown};
-ghost use Rattle.globset_c.specs.Capacity.{IsWritten, IsTooLong};
-ghost use Rattle.globset_c.specs.Statuses.{IsOneOf};
-ghost use Rattle.globset_c.specs.declared.globs.Unread.TheVariants.{NotUtf8, UnknownOption};
-ghost use Rattle.globset_c.specs.declared.object.Failure.TheVariants.{WrongKind};
+ghost use Rattle.c_objects.specs.Errors.{IsErrorOf};
+ghost use Rattle.c_objects.specs.Kinds.{IfGlob, IsGlob};
+ghost use Rattle.c_objects.specs.Options.{glob_of, options_of, IsKnown};
+ghost use Rattle.c_objects.specs.Capacity.{IsWritten, IsTooLong};
+ghost use Rattle.c_objects.specs.Statuses.{IsOneOf};
 ghost use Rattle.glob_text.specs.Escape.{escaped};
 
-use crate::error::{TextError, told};
-use crate::lent::Lent;
-use crate::making::hand_out;
-use crate::object::{Failure, Object};
-use crate::options::{are_known, builder_of};
-use crate::owned::Owned;
-use crate::read_glob::ReadGlob;
-use crate::slices;
-use crate::status::{
+use c_objects::error::{TextError, told};
+use c_objects::globs::{Unread, read};
+use c_objects::lent::Lent;
+use c_objects::making::hand_out;
+use c_objects::object::{Failure, Object};
+use c_objects::owned::Owned;
+use c_objects::read_glob::ReadGlob;
+use c_objects::slices;
+use c_objects::status::{
     DONE, NOT_UTF8, OUT_OF_MEMORY, REJECTED, Status, TOO_SMALL, UNKNOWN_OPTION, WRONG_KIND,
 };
-use globset::{Error, Glob};
+use globset::Glob;
 use std::alloc::Global;
-
-/// Why a text was not read.
-enum Unread {
-    NotUtf8,
-    UnknownOption,
-}
-
-/// Reads a glob under the options that the bits stand for.
-fn read(alloc: Global, text: &[u8], options: u32) -> Result<Result<Glob, Error>, Unread>
-    ensures made { IfOk result
-        (λ read. IfOk read (λ g. (g ≡ glob_of text.now options) × IsRead g)) }
-    ensures rejected { IfOk result
-        (λ read. IfErr read (IsParseErrorOf (options_of options) text.now)) }
-
-    // The options are looked at first, and then the bytes.
-    ensures unknown { IfErr result (λ why. why ≡ UnknownOption → ¬ (IsKnown options)) }
-    ensures known { OnOk result (IsKnown options) }
-    ensures not_utf8 { IfErr result
-        (λ why. why ≡ NotUtf8 → IsKnown options × (¬ (IsUtf8 text.now))) }
-    ensures utf8 { OnOk result (IsUtf8 text.now) }
-{
-    if !are_known(options) {
-        return Err(Unread::UnknownOption);
-    }
-    let Ok(text) = std::str::from_utf8(text) else {
-        return Err(Unread::NotUtf8);
-    };
-    Ok(builder_of(text, options).build(alloc))
-}
 
 /// Reads a glob, and lets the caller own it.
 #[unsafe(no_mangle)]
@@ -132,8 +100,7 @@ pub extern "C" fn globset_raw_glob_regex(
     });
     match copied {
         Ok(regex) => slices::write(regex.as_bytes(), room, needed),
-        Err(Failure::OutOfMemory) => OUT_OF_MEMORY,
-        Err(Failure::WrongKind) => WRONG_KIND,
+        Err(failure) => failure.status(),
     }
 }
 
@@ -172,8 +139,7 @@ pub extern "C" fn globset_raw_glob_text(
     });
     match copied {
         Ok(copy) => slices::write(copy.as_bytes(), room, needed),
-        Err(Failure::OutOfMemory) => OUT_OF_MEMORY,
-        Err(Failure::WrongKind) => WRONG_KIND,
+        Err(failure) => failure.status(),
     }
 }
 

@@ -4,13 +4,13 @@ ghost use Rattle.std.specs.Option.{option_and_then, option_map};
 ghost use Rattle.std.specs.Prelude.{◌≡◌, ◌≢◌, None, Some, [], ◌∷◌, IsSome};
 ghost use Rattle.git_ignore.specs.Rules.{line_text_at, unread_lines_of};
 ghost use Rattle.git_ignore.specs.StackValue.{file_at};
-ghost use Rattle.globset_c.specs.Kinds.{IfIgnore, IsIgnore};
-ghost use Rattle.globset_c.specs.Statuses.{IsOneOf};
+ghost use Rattle.c_objects.specs.Kinds.{IfIgnore, IsIgnore};
+ghost use Rattle.c_objects.specs.Statuses.{IsOneOf};
 
-use crate::object::Object;
-use crate::owned::Owned;
-use crate::slices::{Bytes, Indexes};
-use crate::status::{BAD_INDEX, DONE, Status, WRONG_KIND};
+use c_objects::object::Object;
+use c_objects::owned::Owned;
+use c_objects::slices::{Bytes, Indexes};
+use c_objects::status::{BAD_INDEX, DONE, Status, WRONG_KIND};
 
 /// Lends the numbers of the lines of an ignore file that git cannot read.
 #[unsafe(no_mangle)]

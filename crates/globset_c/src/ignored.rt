@@ -1,14 +1,14 @@
 //! Whether a path is ignored, and by which rule.
 
-ghost use Rattle.std.specs.Prelude.{◌≡◌, ◌≢◌, Some, [], ◌∷◌, IsSome, false, true};
-ghost use Rattle.globset_c.specs.Ignoring.{IsDecideBy, decide_by, file_told, ignores, line_told, rule_for};
-ghost use Rattle.globset_c.specs.Kinds.{IfIgnore, IsIgnore};
-ghost use Rattle.globset_c.specs.Statuses.{IsOneOf};
+ghost use Rattle.std.specs.Prelude.{◌≡◌, ◌≢◌, [], ◌∷◌, IsSome, false, true};
+ghost use Rattle.c_objects.specs.Ignoring.{IsDecideBy, file_told, ignores, line_told, rule_for};
+ghost use Rattle.c_objects.specs.Kinds.{IfIgnore, IsIgnore};
+ghost use Rattle.c_objects.specs.Statuses.{IsOneOf};
 
-use crate::object::Object;
-use crate::owned::Owned;
-use crate::status::{NO, OUT_OF_MEMORY, Status, UNKNOWN_OPTION, WRONG_KIND, YES};
-use git_ignore::{DecideBy, DecidingRule};
+use c_objects::ignored::{decide_by, tell};
+use c_objects::object::Object;
+use c_objects::owned::Owned;
+use c_objects::status::{NO, OUT_OF_MEMORY, Status, UNKNOWN_OPTION, WRONG_KIND, YES};
 
 /// Decides whether a path is ignored, and writes the file and the line of the rule that decides.
 #[unsafe(no_mangle)]
@@ -56,38 +56,5 @@ pub extern "C" fn globset_raw_ignore_decide(
             }
         }
         _ => WRONG_KIND,
-    }
-}
-
-/// Writes the file and the line of a rule, and returns whether the rule ignores the path.
-fn tell(rule: Option<DecidingRule>, file: &mut usize, line: &mut usize) -> Status
-    ensures yes { result ≡ YES → ignores rule ≡ true }
-    ensures no { result ≡ NO → ignores rule ≡ false }
-    ensures file { file.new ≡ file_told rule }
-    ensures line { line.new ≡ line_told rule }
-    ensures statuses { IsOneOf (NO ∷ YES ∷ []) result }
-{
-    match rule {
-        Some(rule) => {
-            *file = rule.file;
-            *line = rule.line;
-            if rule.is_negated { NO } else { YES }
-        }
-        None => {
-            *file = 0;
-            *line = 0;
-            NO
-        }
-    }
-}
-
-/// Returns the variant of [`DecideBy`] that the number stands for.
-pub fn decide_by(number: u32) -> DecideBy
-    ensures { result ≡ decide_by number }
-{
-    match number {
-        0 => DecideBy::Git,
-        1 => DecideBy::Nearest,
-        _ => DecideBy::PathAlone,
     }
 }

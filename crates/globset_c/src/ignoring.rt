@@ -2,14 +2,14 @@
 
 ghost use Rattle.std.specs.Prelude.{◌≡◌, ◌≢◌, [], ◌∷◌, IsSome};
 ghost use Rattle.git_ignore.specs.StackValue.{at_top, entered, left, with_file};
-ghost use Rattle.globset_c.specs.Ignoring.{AreIgnoreOptions, ignores_case};
-ghost use Rattle.globset_c.specs.Kinds.{IfIgnore, IfIgnores, IsIgnore};
-ghost use Rattle.globset_c.specs.Statuses.{IsOneOf};
+ghost use Rattle.c_objects.specs.Ignoring.{AreIgnoreOptions, ignores_case};
+ghost use Rattle.c_objects.specs.Kinds.{IfIgnore, IfIgnores, IsIgnore};
+ghost use Rattle.c_objects.specs.Statuses.{IsOneOf};
 
-use crate::making::hand_out;
-use crate::object::Object;
-use crate::owned::Owned;
-use crate::status::{DONE, OUT_OF_MEMORY, Status, UNKNOWN_OPTION, WRONG_KIND};
+use c_objects::making::hand_out;
+use c_objects::object::Object;
+use c_objects::owned::Owned;
+use c_objects::status::{DONE, OUT_OF_MEMORY, Status, UNKNOWN_OPTION, WRONG_KIND};
 use git_ignore::RulesBuilder;
 use std::alloc::Global;
 

@@ -1,9 +1,9 @@
 //! Globs and sets of globs for C. `bindings/c/globset_raw.h` says what C has to promise, function by function.
 //!
-//! Each function that C calls is safe code. The memory behind what C owns and lends is reached by [`owned`] and [`lent`] alone.
+//! Each function that C calls is here, with its contract. What it does is in `c_objects`.
 #![tactic(auto)]
 
-ghost use Rattle.std.specs.Prelude.{◌≡◌};
+ghost use Rattle.std.specs.Prelude.{◌≡◌, IsSome};
 
 mod answers;
 mod builders;
@@ -13,21 +13,15 @@ mod ignore_lines;
 mod ignored;
 mod ignored_many;
 mod ignoring;
-mod lent;
-mod making;
 mod matchers;
-mod object;
-mod options;
-mod owned;
 mod plain;
-mod read_glob;
 mod relations;
 mod searcher_many;
 mod searchers;
 mod sets;
-mod slices;
-mod status;
 mod unreachable_rules;
+
+use c_objects::owned::Owned;
 
 /// 0.4.21, the version of the Rust crate whose globs these are: 1,000,000 times the first number, 1,000 times the second, and
 /// the third.
@@ -50,4 +44,12 @@ pub extern "C" fn globset_interface() -> u32
     ensures { result ≡ 1 }
 {
     INTERFACE
+}
+
+/// Frees an object of any kind.
+#[unsafe(no_mangle)]
+pub extern "C" fn globset_raw_free(object: Owned)
+    requires owned { IsSome object.object }
+{
+    drop(object.into_box());
 }

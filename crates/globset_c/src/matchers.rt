@@ -1,16 +1,15 @@
 //! Matchers of a glob, and searchers of these: matchers, each with the memory for a thread.
 
-ghost use Rattle.std.specs.Prelude.{◌≡◌, ◌≢◌, Some, Err, [], ◌∷◌, true, false, IsSome};
-ghost use Rattle.globset_c.specs.Kinds.{IfGlob, IfMatcher, IsGlob, IfMatcherSearcher, IsMatcher, IsMatcherSearcher};
-ghost use Rattle.globset_c.specs.Statuses.{IsOneOf};
-ghost use Rattle.globset_c.specs.declared.object.Failure.TheVariants.{WrongKind};
+ghost use Rattle.std.specs.Prelude.{◌≡◌, ◌≢◌, Some, [], ◌∷◌, true, false, IsSome};
+ghost use Rattle.c_objects.specs.Kinds.{IfGlob, IfMatcher, IsGlob, IfMatcherSearcher, IsMatcher, IsMatcherSearcher};
+ghost use Rattle.c_objects.specs.Statuses.{IsOneOf};
 ghost use Rattle.glob_text.specs.GlobMatches.{glob_matches};
 
-use crate::lent::Lent;
-use crate::making::give;
-use crate::object::{Failure, Object};
-use crate::owned::Owned;
-use crate::status::{DONE, NO, OUT_OF_MEMORY, Status, WRONG_KIND, YES};
+use c_objects::lent::Lent;
+use c_objects::making::give;
+use c_objects::object::{Failure, Object};
+use c_objects::owned::Owned;
+use c_objects::status::{DONE, NO, OUT_OF_MEMORY, Status, WRONG_KIND, YES};
 use globset::{Candidate, MatcherSearcher};
 use std::alloc::Global;
 

@@ -1,20 +1,20 @@
 //! Plain calls: on a set or a matcher alone. They allocate the memory that they need.
 
-ghost use Rattle.std.specs.Prelude.{◌≡◌, ◌≢◌, Some, Err, [], ◌∷◌, true, false};
+ghost use Rattle.std.specs.Prelude.{◌≡◌, ◌≢◌, Some, [], ◌∷◌, true, false};
 ghost use Rattle.glob_text.specs.GlobMatches.{glob_matches};
 ghost use Rattle.globset.specs.Answer.{matching_indexes};
 ghost use Rattle.globset.specs.SetValue.{set_globs};
-ghost use Rattle.globset_c.specs.Answers.{IsAll};
-ghost use Rattle.globset_c.specs.Capacity.{IsWritten, IsTooLong};
-ghost use Rattle.globset_c.specs.Kinds.{IfMatcher, IfSet, IsMatcher, IsSet};
-ghost use Rattle.globset_c.specs.Statuses.{IsOneOf};
-ghost use Rattle.globset_c.specs.declared.object.Failure.TheVariants.{WrongKind};
+ghost use Rattle.c_objects.specs.Answers.{IsAll};
+ghost use Rattle.c_objects.specs.Capacity.{IsWritten, IsTooLong};
+ghost use Rattle.c_objects.specs.Kinds.{IfMatcher, IfSet, IsMatcher, IsSet};
+ghost use Rattle.c_objects.specs.Statuses.{IsOneOf};
 
-use crate::lent::Lent;
-use crate::object::{Failure, Object};
-use crate::slices;
-use crate::status::{DONE, NO, OUT_OF_MEMORY, Status, TOO_SMALL, WRONG_KIND, YES};
-use globset::{Candidate, GlobSet};
+use c_objects::lent::Lent;
+use c_objects::object::{Failure, Object};
+use c_objects::sets::{is_match_in, matches_all_in};
+use c_objects::slices;
+use c_objects::status::{DONE, NO, OUT_OF_MEMORY, Status, TOO_SMALL, WRONG_KIND, YES};
+use globset::Candidate;
 use std::alloc::Global;
 
 /// Returns whether the glob of a matcher matches a path.
@@ -67,18 +67,6 @@ pub extern "C" fn globset_raw_set_is_match_plain(set: &mut Lent, path: &[u8]) ->
     })
 }
 
-#[tactic(auto, using(crate::proofs::Nil::nil_where_none))]
-fn is_match_in(set: &GlobSet, path: &[u8]) -> Status
-    ensures yes { result ≡ YES → matching_indexes (set_globs set.now) path.now ≢ [] }
-    ensures no { result ≡ NO → matching_indexes (set_globs set.now) path.now ≡ [] }
-    ensures statuses { IsOneOf (NO ∷ YES ∷ OUT_OF_MEMORY ∷ []) result }
-{
-    let Ok(is_match) = set.is_match_candidate(&Candidate::from_bytes(path)) else {
-        return OUT_OF_MEMORY;
-    };
-    if is_match { YES } else { NO }
-}
-
 /// Returns whether every glob of a set matches a path.
 #[unsafe(no_mangle)]
 pub extern "C" fn globset_raw_set_matches_all_plain(set: &mut Lent, path: &[u8]) -> Status
@@ -98,17 +86,6 @@ pub extern "C" fn globset_raw_set_matches_all_plain(set: &mut Lent, path: &[u8])
         Object::Set(set) => matches_all_in(set, path),
         _ => WRONG_KIND,
     })
-}
-
-fn matches_all_in(set: &GlobSet, path: &[u8]) -> Status
-    ensures yes { result ≡ YES → IsAll set.now path.now }
-    ensures no { result ≡ NO → ¬ (IsAll set.now path.now) }
-    ensures statuses { IsOneOf (NO ∷ YES ∷ OUT_OF_MEMORY ∷ []) result }
-{
-    let Ok(matches_all) = set.matches_all_candidate(&Candidate::from_bytes(path)) else {
-        return OUT_OF_MEMORY;
-    };
-    if matches_all { YES } else { NO }
 }
 
 /// Writes the indexes of the globs of a set that match a path, and their number.
@@ -147,7 +124,6 @@ pub extern "C" fn globset_raw_set_matches_plain(
     });
     match found {
         Ok(found) => slices::write(&found, room, needed),
-        Err(Failure::OutOfMemory) => OUT_OF_MEMORY,
-        Err(Failure::WrongKind) => WRONG_KIND,
+        Err(failure) => failure.status(),
     }
 }

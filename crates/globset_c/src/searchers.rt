@@ -1,20 +1,20 @@
 //! Searchers: sets, each with the memory for a thread.
 
-ghost use Rattle.std.specs.Prelude.{◌≡◌, ◌≢◌, Some, Err, [], ◌∷◌, length, IsSome};
+ghost use Rattle.std.specs.Prelude.{◌≡◌, ◌≢◌, Some, [], ◌∷◌, length, IsSome};
 ghost use Rattle.globset.specs.Answer.{matching_indexes};
 ghost use Rattle.globset.specs.Below.{MatchesBelow};
 ghost use Rattle.globset.specs.SetValue.{set_globs};
-ghost use Rattle.globset_c.specs.Answers.{IsAll};
-ghost use Rattle.globset_c.specs.Kinds.{IfSearcher, IfSearchers, IfSet, IsSearcher, IsSet};
-ghost use Rattle.globset_c.specs.Statuses.{IsOneOf};
-ghost use Rattle.globset_c.specs.declared.object.Failure.TheVariants.{WrongKind};
+ghost use Rattle.c_objects.specs.Answers.{IsAll};
+ghost use Rattle.c_objects.specs.Kinds.{IfSearcher, IfSearchers, IfSet, IsSearcher, IsSet};
+ghost use Rattle.c_objects.specs.Statuses.{IsOneOf};
 
-use crate::lent::Lent;
-use crate::making::give;
-use crate::object::{Failure, Object};
-use crate::owned::Owned;
-use crate::slices::Indexes;
-use crate::status::{DONE, NO, OUT_OF_MEMORY, Status, WRONG_KIND, YES};
+use c_objects::lent::Lent;
+use c_objects::making::give;
+use c_objects::object::{Failure, Object};
+use c_objects::owned::Owned;
+use c_objects::searchers::{is_match_in, matches_all_in};
+use c_objects::slices::Indexes;
+use c_objects::status::{DONE, NO, OUT_OF_MEMORY, Status, WRONG_KIND, YES};
 use globset::{Candidate, Searcher};
 use std::alloc::Global;
 
@@ -47,7 +47,6 @@ pub extern "C" fn globset_raw_searcher_new(alloc: Global, set: &mut Lent, out: &
 
 /// Returns whether some glob of a searcher's set matches a path.
 #[unsafe(no_mangle)]
-#[tactic(auto, using(crate::proofs::Nil::nil_where_none))]
 pub extern "C" fn globset_raw_searcher_is_match(searcher: &mut Owned, path: &[u8]) -> Status
     // The handle owns an object, which stays as it was. The answer is right.
     requires owned { IsSome searcher.old.object }
@@ -62,13 +61,7 @@ pub extern "C" fn globset_raw_searcher_is_match(searcher: &mut Owned, path: &[u8
     ensures statuses { IsOneOf (NO ∷ YES ∷ WRONG_KIND ∷ []) result }
 {
     match searcher.as_mut() {
-        Object::Searcher(searcher) => {
-            if searcher.is_match(&Candidate::from_bytes(path)) {
-                YES
-            } else {
-                NO
-            }
-        }
+        Object::Searcher(searcher) => is_match_in(searcher, path),
         _ => WRONG_KIND,
     }
 }
@@ -89,19 +82,6 @@ pub extern "C" fn globset_raw_searcher_matches_all(searcher: &mut Owned, path: &
     match searcher.as_mut() {
         Object::Searcher(searcher) => matches_all_in(searcher, path),
         _ => WRONG_KIND,
-    }
-}
-
-fn matches_all_in(searcher: &mut Searcher, path: &[u8]) -> Status
-    ensures same { searcher.new ≡ searcher.old }
-    ensures yes { result ≡ YES → IsAll searcher.old.set path.now }
-    ensures no { result ≡ NO → ¬ (IsAll searcher.old.set path.now) }
-    ensures statuses { IsOneOf (NO ∷ YES ∷ []) result }
-{
-    if searcher.matches_all(&Candidate::from_bytes(path)) {
-        YES
-    } else {
-        NO
     }
 }
 

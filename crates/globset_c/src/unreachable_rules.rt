@@ -1,20 +1,18 @@
 //! Rules of ignore files that never decide.
 
-ghost use Rattle.std.specs.Prelude.{◌≡◌, ◌≢◌, None, Some, Err, [], ◌∷◌, IfOk, IsSome};
+ghost use Rattle.std.specs.Prelude.{◌≡◌, ◌≢◌, None, [], ◌∷◌, IsSome};
 ghost use Rattle.git_ignore.specs.StackValue.{file_at};
-ghost use Rattle.globset_c.specs.Kinds.{IfIgnore, IsIgnore};
-ghost use Rattle.globset_c.specs.Relations.{AnswersRules, domain_of, IsDomain, TellRules};
-ghost use Rattle.globset_c.specs.Statuses.{IsOneOf};
+ghost use Rattle.c_objects.specs.Kinds.{IfIgnore, IsIgnore};
+ghost use Rattle.c_objects.specs.Relations.{AnswersRules, domain_of, IsDomain};
+ghost use Rattle.c_objects.specs.Statuses.{IsOneOf};
 
-use crate::answers::{Answers, RuleAnswers};
-use crate::making::hand_out;
-use crate::object::Object;
-use crate::owned::Owned;
-use crate::relations::{domain_of, is_domain};
-use crate::status::{BAD_INDEX, DONE, OUT_OF_MEMORY, Status, UNKNOWN_OPTION, WRONG_KIND};
-use git_ignore::{RulePatterns, rule_patterns};
-use glob_relations::{Domain, unreachable_rules};
-use std::alloc::{AllocError, Global};
+use c_objects::answers::Answers;
+use c_objects::making::hand_out;
+use c_objects::object::Object;
+use c_objects::owned::Owned;
+use c_objects::relations::{answers_about, domain_of, is_domain};
+use c_objects::status::{BAD_INDEX, DONE, OUT_OF_MEMORY, Status, UNKNOWN_OPTION, WRONG_KIND};
+use std::alloc::Global;
 
 /// Decides for each rule of an ignore file whether it ever decides, and lets the caller own the answers.
 #[unsafe(no_mangle)]
@@ -60,19 +58,4 @@ pub extern "C" fn globset_raw_ignore_unreachable(
         Ok(all) => hand_out(alloc, Object::Answers(Answers::Rules(all)), out),
         Err(_) => OUT_OF_MEMORY,
     }
-}
-
-/// Returns an answer for each rule of an ignore file, given by its bytes.
-fn answers_about(
-    alloc: Global,
-    file: &[u8],
-    ignore_case: bool,
-    domain: Domain,
-    limit: usize,
-) -> Result<RuleAnswers, AllocError>
-    ensures { IfOk result (TellRules ignore_case file.now domain limit) }
-{
-    let RulePatterns { patterns, lines } = rule_patterns(alloc, file)?;
-    let told = unreachable_rules(alloc, &patterns, ignore_case, domain, limit)?;
-    Ok(RuleAnswers { told, lines })
 }

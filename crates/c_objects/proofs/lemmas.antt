@@ -1,0 +1,9 @@
+pub mod Answered
+pub mod AsBox
+pub mod EachIndex
+pub mod Ends
+pub mod LentGlobs
+pub mod ManyIndexes
+pub mod Nil
+pub mod Owns
+pub mod Told

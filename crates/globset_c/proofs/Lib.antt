@@ -1,9 +1,0 @@
-pub mod Answered
-pub mod EachIndex
-pub mod Ends
-pub mod AsBox
-pub mod LentGlobs
-pub mod ManyIndexes
-pub mod Nil
-pub mod Owns
-pub mod Told

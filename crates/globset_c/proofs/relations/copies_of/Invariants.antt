@@ -1,8 +1,0 @@
-use Rattle.std.proofs.Common.{◌≡◌}
-use Rattle.std.specs.Prelude.{take}
-use Rattle.globset_c.specs.LentGlobs.{lent_globs}
-use Rattle.globset_c.proofs.relations.copies_of.Given as goal
-
--- The handles are as they were, and the globs so far are copied.
-abbrev pub invariant-loop-i : goal.invariant-loop-i
-invariant-loop-i l = (l.globs ≡ l.fn.globs) × (l.copies.items ≡ lent_globs (take l.i l.fn.globs))
