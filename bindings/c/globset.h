@@ -219,8 +219,8 @@ GLOBSET_CHECKED int globset_searcher_can_match_below(globset_searcher *searcher,
 
 /* Asks globset_searcher_is_match of `count` paths. `paths` has the bytes of all, one path behind another, and `length`
  * bytes in all. Path number i is the bytes from end_offsets[i - 1], and from 0 for the first, up to end_offsets[i],
- * without that one. GLOBSET_OK: answers[i] is 1 if some glob matches path number i, and else 0. GLOBSET_EOFFSETS and
- * GLOBSET_ENOMEM, and then no answer was written: the call takes a few bytes for each path, and gives them back. */
+ * without that one. GLOBSET_OK: answers[i] is 1 if some glob matches path number i, and else 0. GLOBSET_EOFFSETS, and then
+ * no answer was written. The call takes no memory. */
 GLOBSET_CHECKED int globset_searcher_is_match_many(globset_searcher *searcher, const char *paths, size_t length,
                                                    const size_t *end_offsets, size_t count, uint8_t *answers);
 

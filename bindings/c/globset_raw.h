@@ -214,9 +214,8 @@ globset_status globset_raw_searcher_found(globset_owned *searcher, globset_index
 
 /* Asks globset_raw_searcher_is_match of many paths. Path number i is the bytes from ends[i - 1] (from 0 for the first) up
  * to ends[i], without that one. GLOBSET_DONE: answers[i] is 1 if some glob matches path number i, and else 0. Otherwise
- * no answer was written: GLOBSET_BAD_ENDS, also if `answers` has not one number for each path; GLOBSET_WRONG_KIND;
- * GLOBSET_OUT_OF_MEMORY: the call takes a few bytes for each path, and gives them back. Bytes after the last end belong to
- * no path. */
+ * no answer was written: GLOBSET_BAD_ENDS, also if `answers` has not one number for each path; GLOBSET_WRONG_KIND. The
+ * call takes no memory. Bytes after the last end belong to no path. */
 globset_status globset_raw_searcher_is_match_many(globset_owned *searcher, const uint8_t *paths, size_t paths_len,
                                                   const size_t *ends, size_t ends_len, uint8_t *answers,
                                                   size_t answers_len);

@@ -42,29 +42,23 @@ pub fn matches_all_in(searcher: &mut Searcher, path: &[u8]) -> Status
     }
 }
 
-/// Returns an answer for each path.
-#[tactic(auto, using(crate::proofs::lemmas::Ends::next_answer, crate::proofs::lemmas::Ends::ends_part))]
-pub fn answer_each(
-    alloc: Global,
-    searcher: &mut Searcher,
-    paths: &[u8],
-    ends: &[usize],
-) -> Result<Vec<u8>, AllocError>
-    requires { AreEnds (length paths.now) 0 ends.now }
-    ensures answered { IfOk result
-        (λ v. v.items ≡ answers_for (set_globs searcher.old.set) paths.now 0 ends.now) }
-    ensures len { IfOk result (λ v. length v.items ≡ length ends.now) }
+/// Writes an answer for each path.
+#[tactic(auto, using(crate::proofs::lemmas::Ends::next_answer, crate::proofs::lemmas::Ends::all_answers, crate::proofs::lemmas::Ends::ends_part))]
+pub fn answer_each(searcher: &mut Searcher, paths: &[u8], ends: &[usize], answers: &mut [u8])
+    requires ends { AreEnds (length paths.now) 0 ends.now }
+    requires one_for_each { length ends.now ≡ length answers.old }
+    ensures answered { answers.new ≡ answers_for (set_globs searcher.old.set) paths.now 0 ends.now }
     ensures kept { searcher.new ≡ searcher.old }
 {
-    let mut answers = Vec::new(alloc);
+    let mut count = 0;
     let mut start = 0;
     let mut rest = ends;
     'each: while let Some((end, tail)) = rest.split_first() {
-        answers.push(answer(searcher, &paths[start..*end]))?;
+        answers[count] = answer(searcher, &paths[start..*end]);
+        count += 1;
         start = *end;
         rest = tail;
     }
-    Ok(answers)
 }
 
 /// Returns 1 if some glob of the searcher's set matches the path, and else 0.

@@ -17,7 +17,6 @@ use std::alloc::Global;
 /// Writes for each path whether some glob of a searcher's set matches it: 1 or 0.
 #[unsafe(no_mangle)]
 pub extern "C" fn globset_raw_searcher_is_match_many(
-    alloc: Global,
     searcher: &mut Owned,
     paths: &[u8],
     ends: &[usize],
@@ -40,20 +39,17 @@ pub extern "C" fn globset_raw_searcher_is_match_many(
     ensures right_kind { IsSearcher searcher.old.object → result ≢ WRONG_KIND }
     ensures other_kind { ¬ (IsSearcher searcher.old.object) → result ≢ BAD_ENDS
         → result ≡ WRONG_KIND }
-    ensures statuses { IsOneOf (DONE ∷ OUT_OF_MEMORY ∷ WRONG_KIND ∷ BAD_ENDS ∷ []) result }
+    ensures statuses { IsOneOf (DONE ∷ WRONG_KIND ∷ BAD_ENDS ∷ []) result }
 {
     if ends.len() != answers.len() || !are_ends(paths.len(), ends) {
         return BAD_ENDS;
     }
-    let Object::Searcher(searcher) = searcher.as_mut() else {
-        return WRONG_KIND;
-    };
-    match answer_each(alloc, searcher, paths, ends) {
-        Ok(found) => {
-            answers.copy_from_slice(&found);
+    match searcher.as_mut() {
+        Object::Searcher(searcher) => {
+            answer_each(searcher, paths, ends, answers);
             DONE
         }
-        Err(_) => OUT_OF_MEMORY,
+        _ => WRONG_KIND,
     }
 }
 
