@@ -313,23 +313,23 @@ static PyObject *glob_new(PyTypeObject *type, PyObject *arguments, PyObject *key
     Py_ssize_t length;
     const char *text = PyUnicode_AsUTF8AndSize(pattern, &length);
     if (!text) return NULL;
-    struct glob *self = (struct glob *)new_object(type);
-    if (!self) return NULL;
     globset_error error;
     struct source source = {(const uint8_t *)text, (size_t)length, &error, {NULL}};
     globset_owned glob;
     globset_status status = globset_raw_glob_new(source.text, source.length, options, &error, &glob);
-    if (status == GLOBSET_DONE) {
-        self->glob = glob;
-        return (PyObject *)self;
-    }
     if (status == GLOBSET_REJECTED) {
         raise_rejected(pattern, &source);
-    } else {
-        raise_status(status);
+        return NULL;
     }
-    Py_DECREF(self);
-    return NULL;
+    if (status != GLOBSET_DONE) return raise_status(status);
+    /* The object is made last: a finalizer of a class that is derived from this one, or another thread, may find it. */
+    struct glob *self = (struct glob *)new_object(type);
+    if (self) {
+        self->glob = glob;
+    } else {
+        globset_raw_free(glob);
+    }
+    return (PyObject *)self;
 }
 
 static void glob_dealloc(PyObject *object) {
@@ -465,9 +465,15 @@ static PyObject *set_new(PyTypeObject *type, PyObject *arguments, PyObject *keyw
     Py_ssize_t limit;
     if (!PyArg_ParseTupleAndKeywords(arguments, keywords, "O!n:GlobSetBase", names, &PyTuple_Type, &globs, &limit)) return NULL;
     PyTypeObject *glob_type = glob_type_of(type);
-    if (!glob_type) return NULL;
+    globset_owned built;
+    if (!glob_type || build(&built, globs, limit, glob_type) < 0) return NULL;
+    /* It is made last, as a glob is. */
     struct set *self = (struct set *)new_object(type);
-    if (self && build(&self->set, globs, limit, glob_type) < 0) Py_CLEAR(self);
+    if (self) {
+        self->set = built;
+    } else {
+        globset_raw_free(built);
+    }
     return (PyObject *)self;
 }
 

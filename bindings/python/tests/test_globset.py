@@ -684,6 +684,16 @@ except KeyboardInterrupt:
         gc.collect()
         self.assertEqual([sys.getrefcount(value) for value in watched], before)
 
+    def test_finalizers_after_exceptions(self):
+        def ask(self):
+            with suppress(AttributeError):
+                self.match("a")
+
+        for base, error, arguments in [(Glob, GlobError, ["["]), (globset.GlobSetBase, TypeError, [("a",), -1])]:
+            asking = type("Asking", (base,), {"__del__": ask})
+            with self.assertRaises(error):
+                asking(*arguments)
+
     def test_end_of_the_interpreter(self):
         ran = run_python(
             """
