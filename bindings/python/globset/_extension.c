@@ -415,58 +415,63 @@ static PyTypeObject *glob_type_of(PyTypeObject *type) {
     return NULL;
 }
 
-static int add_globs(globset_owned *builder, PyObject *globs, PyTypeObject *glob_type) {
-    Py_ssize_t count = PyTuple_Size(globs);
-    for (Py_ssize_t i = 0; i < count; i++) {
-        PyObject *glob = PyTuple_GetItem(globs, i);
-        if (!glob) return -1;
-        if (!PyObject_TypeCheck(glob, glob_type)) {
-            PyErr_SetString(PyExc_TypeError, "a set is made of globs");
+/* Globs that are lent to one call. The caller of the call has a reference to each. */
+struct lents {
+    globset_lent *at;
+    size_t count;
+};
+
+/* Makes handles of a tuple of globs. There is room for one more, since no array may be null. */
+static int lend_globs(PyTypeObject *glob_type, PyObject *globs, struct lents *lents) {
+    lents->count = (size_t)PyTuple_Size(globs);
+    lents->at = malloc((lents->count + 1) * sizeof *lents->at);
+    if (!lents->at) {
+        PyErr_NoMemory();
+        return -1;
+    }
+    for (size_t i = 0; i < lents->count; i++) {
+        PyObject *glob = PyTuple_GetItem(globs, (Py_ssize_t)i);
+        if (!glob || !PyObject_TypeCheck(glob, glob_type)) {
+            if (glob) PyErr_SetString(PyExc_TypeError, "globs are a tuple of Glob");
+            free(lents->at);
             return -1;
         }
-        globset_lent lent = {((struct glob *)glob)->glob.at};
-        globset_status status = globset_raw_builder_add(builder, &lent);
-        if (status != GLOBSET_DONE) {
-            raise_status(status);
-            return -1;
-        }
+        lents->at[i].at = ((struct glob *)glob)->glob.at;
     }
     return 0;
 }
 
-/* Makes the library's set. It releases the lock while the set is built: nobody else has the builder. */
-static int build(globset_owned *set, PyObject *globs, Py_ssize_t limit, PyTypeObject *glob_type) {
-    globset_owned builder, built;
+/* Makes the library's set of lent globs. */
+static globset_status build(const struct lents *lents, Py_ssize_t limit, globset_owned *out) {
+    if (limit < 0) return globset_raw_set_of_globs(lents->at, lents->count, out);
+    globset_owned builder;
     globset_status status = globset_raw_builder_new(&builder);
-    if (status != GLOBSET_DONE) {
-        raise_status(status);
-        return -1;
+    if (status != GLOBSET_DONE) return status;
+    status = globset_raw_builder_set_dfa_size_limit(&builder, (size_t)limit);
+    for (size_t i = 0; i < lents->count && status == GLOBSET_DONE; i++) {
+        status = globset_raw_builder_add(&builder, &lents->at[i]);
     }
-    if (limit >= 0) status = globset_raw_builder_set_dfa_size_limit(&builder, (size_t)limit);
-    int added = status == GLOBSET_DONE ? add_globs(&builder, globs, glob_type) : 0;
-    if (status == GLOBSET_DONE && added == 0) {
-        Py_BEGIN_ALLOW_THREADS
-        status = globset_raw_builder_build(&builder, &built);
-        Py_END_ALLOW_THREADS
-    }
+    if (status == GLOBSET_DONE) status = globset_raw_builder_build(&builder, out);
     globset_raw_free(builder);
-    if (added < 0) return -1;
-    if (status != GLOBSET_DONE) {
-        raise_status(status);
-        return -1;
-    }
-    *set = built;
-    return 0;
+    return status;
 }
 
+/* Releases the lock while the set is made. The tuple has references to the globs. */
 static PyObject *set_new(PyTypeObject *type, PyObject *arguments, PyObject *keywords) {
     static char *names[] = {"", "", NULL};
     PyObject *globs;
     Py_ssize_t limit;
     if (!PyArg_ParseTupleAndKeywords(arguments, keywords, "O!n:GlobSetBase", names, &PyTuple_Type, &globs, &limit)) return NULL;
     PyTypeObject *glob_type = glob_type_of(type);
+    struct lents lents;
+    if (!glob_type || lend_globs(glob_type, globs, &lents) < 0) return NULL;
     globset_owned built;
-    if (!glob_type || build(&built, globs, limit, glob_type) < 0) return NULL;
+    globset_status status;
+    Py_BEGIN_ALLOW_THREADS
+    status = build(&lents, limit, &built);
+    Py_END_ALLOW_THREADS
+    free(lents.at);
+    if (status != GLOBSET_DONE) return raise_status(status);
     /* It is made last, as a glob is. */
     struct set *self = (struct set *)new_object(type);
     if (self) {

@@ -1,39 +1,11 @@
 /* Questions about all paths: a part of _extension.c, which includes it once. */
 
-/* Globs that are lent to one call. The caller of the call has a reference to each. */
-struct lents {
-    globset_lent *at;
-    size_t count;
-};
-
 /* The class GlobBase of a module. */
 static PyTypeObject *glob_type_in(PyObject *module) {
     PyTypeObject **glob_type = PyModule_GetState(module);
     if (glob_type && *glob_type) return *glob_type;
     PyErr_SetString(PyExc_RuntimeError, "the module globset has ended");
     return NULL;
-}
-
-/* Makes handles of a tuple of globs. There is room for one more, since no array may be null. */
-static int lend_globs(PyObject *module, PyObject *globs, struct lents *lents) {
-    PyTypeObject *glob_type = glob_type_in(module);
-    if (!glob_type) return -1;
-    lents->count = (size_t)PyTuple_Size(globs);
-    lents->at = malloc((lents->count + 1) * sizeof *lents->at);
-    if (!lents->at) {
-        PyErr_NoMemory();
-        return -1;
-    }
-    for (size_t i = 0; i < lents->count; i++) {
-        PyObject *glob = PyTuple_GetItem(globs, (Py_ssize_t)i);
-        if (!glob || !PyObject_TypeCheck(glob, glob_type)) {
-            if (glob) PyErr_SetString(PyExc_TypeError, "a question is about globs");
-            free(lents->at);
-            return -1;
-        }
-        lents->at[i].at = ((struct glob *)glob)->glob.at;
-    }
-    return 0;
 }
 
 /* What the answer of an index tells: a path, the indexes of globs or rules, None where the limit was reached, or the index of a
@@ -80,7 +52,7 @@ static PyObject *covering(PyObject *module, PyObject *arguments) {
     if (!glob_type) return NULL;
     if (!PyArg_ParseTuple(arguments, "O!O!In:covering", glob_type, &glob, &PyTuple_Type, &by, &domain, &limit)) return NULL;
     struct lents lents;
-    if (lend_globs(module, by, &lents) < 0) return NULL;
+    if (lend_globs(glob_type, by, &lents) < 0) return NULL;
     globset_lent lent = {((struct glob *)glob)->glob.at};
     globset_owned answers;
     globset_status status;
@@ -112,8 +84,9 @@ static PyObject *unreachable(PyObject *module, PyObject *arguments) {
     unsigned int decides, domain;
     Py_ssize_t limit;
     if (!PyArg_ParseTuple(arguments, "O!IIn:unreachable", &PyTuple_Type, &globs, &decides, &domain, &limit)) return NULL;
+    PyTypeObject *glob_type = glob_type_in(module);
     struct lents lents;
-    if (lend_globs(module, globs, &lents) < 0) return NULL;
+    if (!glob_type || lend_globs(glob_type, globs, &lents) < 0) return NULL;
     globset_owned answers;
     globset_status status;
     Py_BEGIN_ALLOW_THREADS

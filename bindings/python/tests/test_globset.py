@@ -573,11 +573,12 @@ class Use(unittest.TestCase):
                 call(paths())
 
     def test_the_lock_is_released(self):
-        """Another thread runs during a call about many paths.
+        """Another thread runs during a call about many paths, and while a set is made.
 
         With so long a switch interval it can only do so when the call releases the lock, however busy the machine is.
         """
         globs, paths = GlobSet(["*a*[xy]*c", "*[xy]*a*c"]), [b"ab" * 100_000 + b"c"] * 50
+        many = tuple(Glob(f"*{number}*[xy]*") for number in range(2000))
         counts, is_over = [0], threading.Event()
 
         def count():
@@ -585,14 +586,14 @@ class Use(unittest.TestCase):
                 counts[0] += 1
                 time.sleep(0.0005)
 
-        def runs_during(call):
+        def runs_during(call, *arguments):
             before = counts[0]
-            call(paths)
+            call(*arguments)
             return counts[0] != before
 
-        def runs_in_the_end(call):
+        def runs_in_the_end(*call):
             end = time.monotonic() + 60
-            while not runs_during(call):
+            while not runs_during(*call):
                 if time.monotonic() > end:
                     return False
             return True
@@ -603,7 +604,9 @@ class Use(unittest.TestCase):
         thread.start()
         try:
             for call in [globs.match_many, globs.matches_many, globs.filter, globs.globs[0].match_many, globs.globs[1].filter]:
-                self.assertTrue(runs_in_the_end(call), call)
+                self.assertTrue(runs_in_the_end(call, paths), call)
+            for limit in [-1, 0]:
+                self.assertTrue(runs_in_the_end(globset.GlobSetBase, many, limit), limit)
         finally:
             is_over.set()
             sys.setswitchinterval(interval)
