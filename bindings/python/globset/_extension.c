@@ -401,13 +401,17 @@ struct set {
     struct pool searchers;
 };
 
-/* The class GlobBase of the module, which has this class or one of those that it is derived from. */
+static struct PyModuleDef definition;
+
+/* The class GlobBase of the module, which has this class or one of those that it is derived from. A class that another module in C
+ * derives from GlobSetBase has that module. */
 static PyTypeObject *glob_type_of(PyTypeObject *type) {
     PyObject *module = NULL;
     while (type && !module) {
         module = PyType_GetModule(type);
         type = (PyTypeObject *)PyType_GetSlot(type, Py_tp_base);
         if (!module && type) PyErr_Clear();
+        if (module && PyModule_GetDef(module) != &definition) module = NULL;
     }
     PyTypeObject **glob_type = module ? PyModule_GetState(module) : NULL;
     if (glob_type && *glob_type) return *glob_type;

@@ -1,6 +1,7 @@
 """Tests of the module globset: its calls, exceptions and types, threads, and the end of the interpreter."""
 
 import copy
+import ctypes
 import doctest
 import gc
 import importlib
@@ -475,6 +476,21 @@ class Sets(unittest.TestCase):
         named = Named(["*.c"], name="c")
         self.assertEqual((named.name, named.matches("a.c"), repr(named)), ("c", [0], "Named([Glob('*.c')])"))
         self.assertEqual(GlobSet([Text("*.c")]).filter([Text("a.c")]), ["a.c"])
+
+    @unittest.skipIf(IS_CTYPES, "classes over ctypes have no module of C")
+    def test_a_class_of_another_module(self):
+        """A class that another module in C derives has that module, and makes sets all the same."""
+
+        class Spec(ctypes.Structure):
+            _fields_ = [("name", ctypes.c_char_p), ("size", ctypes.c_int), ("item_size", ctypes.c_int)]
+            _fields_ += [("flags", ctypes.c_uint), ("slots", ctypes.c_void_p)]
+
+        no_slots = (ctypes.c_void_p * 2)()
+        spec = Spec(b"other.Set", 0, 0, 0, ctypes.addressof(no_slots))
+        make = ctypes.pythonapi.PyType_FromModuleAndSpec
+        make.argtypes, make.restype = [ctypes.py_object, ctypes.c_void_p, ctypes.py_object], ctypes.py_object
+        other = make(unittest, ctypes.addressof(spec), (globset.GlobSetBase,))
+        self.assertEqual(other((Glob("*.c"),), -1).matches("a.c"), [0])
 
     def test_no_globs(self):
         globs = GlobSet([])
