@@ -32,11 +32,15 @@ static void ignore_dealloc(PyObject *object) {
     end_object(object);
 }
 
-/* Begins a turn. It releases the interpreter's lock while another thread has its turn. */
+/* Begins a turn without the interpreter's lock. The turn has to end before that lock is taken again: a thread may never get it at
+ * the interpreter's end, and the others would wait. */
+static void wait_for_turn(struct ignore_files *self) { PyThread_acquire_lock(self->turn, WAIT_LOCK); }
+
+/* Begins a turn for a short call with the interpreter's lock, which it releases while another thread has its turn. */
 static void begin_turn(struct ignore_files *self) {
     if (PyThread_acquire_lock(self->turn, NOWAIT_LOCK)) return;
     Py_BEGIN_ALLOW_THREADS
-    PyThread_acquire_lock(self->turn, WAIT_LOCK);
+    wait_for_turn(self);
     Py_END_ALLOW_THREADS
 }
 
@@ -53,11 +57,11 @@ static PyObject *ignore_add_file(PyObject *object, PyObject *file) {
     Py_ssize_t length;
     if (PyBytes_AsStringAndSize(file, &at, &length) < 0) return NULL;
     globset_status status;
-    begin_turn(self);
     Py_BEGIN_ALLOW_THREADS
+    wait_for_turn(self);
     status = globset_raw_ignore_add_file(&self->ignore, (const uint8_t *)at, (size_t)length);
-    Py_END_ALLOW_THREADS
     end_turn(self);
+    Py_END_ALLOW_THREADS
     return none_if_done(status);
 }
 
@@ -248,11 +252,11 @@ static PyObject *ask_ignore_many(PyObject *object, PyObject *arguments, const st
     if (!PyArg_ParseTuple(arguments, question->format, &paths, &by)) return NULL;
     if (read_many(paths, question->size, &many) == 0) {
         globset_status status;
-        begin_turn(self);
         Py_BEGIN_ALLOW_THREADS
+        wait_for_turn(self);
         status = question->tell(self, &many, by);
-        Py_END_ALLOW_THREADS
         end_turn(self);
+        Py_END_ALLOW_THREADS
         result = status == GLOBSET_DONE ? question->list(&many) : raise_status(status);
     }
     free_many(&many);
@@ -339,11 +343,11 @@ static PyObject *ignore_unreachable(PyObject *object, PyObject *arguments) {
     if (!PyArg_ParseTuple(arguments, "nIn:unreachable", &file, &domain, &limit)) return NULL;
     globset_owned answers;
     globset_status status;
-    begin_turn(self);
     Py_BEGIN_ALLOW_THREADS
+    wait_for_turn(self);
     status = globset_raw_ignore_unreachable(&self->ignore, (size_t)file, domain, (size_t)limit, &answers);
-    Py_END_ALLOW_THREADS
     end_turn(self);
+    Py_END_ALLOW_THREADS
     if (status != GLOBSET_DONE) return raise_status(status);
     PyObject *told = told_of_rules(&answers);
     globset_raw_free(answers);

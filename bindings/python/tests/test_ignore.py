@@ -20,7 +20,7 @@ import globset
 from globset import IgnoreRules, IgnoreStack, ignore
 from globset.ignore import Decision
 from globset.relations import unreachable_rules
-from test_globset import IS_CTYPES, TextPath
+from test_globset import IS_CTYPES, TextPath, run_python
 
 # Lines, a path, and the decision by git's rule, by the nearest decision, and about the path alone: the line, which is negative if
 # it has `!`, or 0. From docs/GIT_IGNORE.md, and from `git check-ignore`.
@@ -335,6 +335,28 @@ class Threads(unittest.TestCase):
         self.assertEqual(rules.decide_many(paths), [True, True, None])
 
     @unittest.skipUnless(hasattr(signal, "setitimer"), "there are no timers")
+    @unittest.skipIf(IS_CTYPES, "a lock of Python stays taken where the end of the interpreter ends its thread")
+    def test_end_of_the_interpreter(self):
+        """What is called at the end of the interpreter does not wait for threads that ended in a call."""
+        ran = run_python(
+            """
+import threading, time
+from globset import IgnoreRules
+rules, paths = IgnoreRules(["*a*[xy]*c"]), [b"ab" * 1000 + b"c"] * 1000
+class Late:
+    def __init__(self): self.rules, self.me = rules, self
+    def __del__(self): self.rules.is_ignored("a")
+late = Late()
+def ask():
+    while True:
+        rules.decide_many(paths)
+for _ in range(3):
+    threading.Thread(target=ask, daemon=True).start()
+time.sleep(0.2)
+"""
+        )
+        self.assertEqual((ran.returncode, ran.stdout, ran.stderr), (0, b"", b""))
+
     def test_signals(self):
         """A handler of a signal uses the object that the interrupted call uses."""
         stack, count = IgnoreStack(), [0]
