@@ -39,6 +39,7 @@ The C library is called by an extension module, or by ``ctypes`` where there is 
 
 from __future__ import annotations
 
+import operator
 import os
 import sys
 from typing import (
@@ -217,11 +218,12 @@ class GlobSet(GlobSetBase):
         if isinstance(globs, (str, bytes, Glob)):
             raise TypeError(f"the globs of a set are an iterable of them, not one {type(globs).__name__}")
         read = _read_globs(globs)
-        if dfa_size_limit is not None and dfa_size_limit < 0:
+        limit = None if dfa_size_limit is None else operator.index(dfa_size_limit)
+        if limit is not None and limit < 0:
             raise ValueError("a limit is not negative")
-        self = super().__new__(cls, read, -1 if dfa_size_limit is None else min(dfa_size_limit, sys.maxsize))
+        self = super().__new__(cls, read, -1 if limit is None else min(limit, sys.maxsize))
         self._globs = read
-        self._limit = dfa_size_limit
+        self._limit = limit
         return self
 
     @property

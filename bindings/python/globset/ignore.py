@@ -31,6 +31,7 @@ raise ``MemoryError``, and then it has changed nothing. A surrogate that ``os.fs
 
 from __future__ import annotations
 
+import operator
 import sys
 from typing import TYPE_CHECKING, Any, Iterable, List, Literal, NamedTuple, NoReturn, Optional, Tuple, Type, TypeVar, Union
 
@@ -281,9 +282,10 @@ def _decision_of(decided: Optional[Tuple[bool, int, int]]) -> Optional[Decision]
 
 def _index_of(number: int) -> int:
     """Returns an index of a file or a number of a line as the library takes it."""
-    if number < 0:
+    index = operator.index(number)
+    if index < 0:
         raise IndexError("there is no ignore file or line of this index")
-    return min(number, sys.maxsize)
+    return min(index, sys.maxsize)
 
 
 def _text_of(data: bytes) -> str:

@@ -18,6 +18,7 @@ Intersection(disjoint=False, path='ab')
 from __future__ import annotations
 
 import enum
+import operator
 import sys
 from typing import TYPE_CHECKING, Iterable, List, NamedTuple, Optional, Tuple, Union
 
@@ -189,9 +190,10 @@ def _globs_of(globs: Iterable[_AnyGlob]) -> Tuple[Glob, ...]:
 
 
 def _limit_of(limit: int) -> int:
-    if limit < 0:
+    number = operator.index(limit)
+    if number < 0:
         raise ValueError("a limit is not negative")
-    return min(limit, sys.maxsize)
+    return min(number, sys.maxsize)
 
 
 def _answer(told: Told) -> Tuple[Optional[bool], Optional[str]]:

@@ -57,6 +57,16 @@ ERRORS = [
 IS_CTYPES = globset._binding.__name__.endswith("_by_ctypes")
 
 
+class Number:
+    """An integer of another kind, as numpy has them."""
+
+    def __init__(self, number):
+        self.number = number
+
+    def __index__(self):
+        return self.number
+
+
 class TextPath:
     def __init__(self, path):
         self.path = path
@@ -290,6 +300,7 @@ class Errors(unittest.TestCase):
             lambda: Glob("a").filter(["a", 7]),
             lambda: GlobSet(["a"]).match(TextPath(7)),
             lambda: GlobSet(["a"], dfa_size_limit="a"),
+            lambda: GlobSet(["a"], dfa_size_limit=1.5),
             lambda: GlobSet(["a"], 7),
             lambda: escape(b"a"),
             lambda: escape(7),
@@ -460,8 +471,10 @@ class Sets(unittest.TestCase):
             self.assertEqual(made, GlobSet(globs))
             self.assertEqual(repr(made)[-len(f", dfa_size_limit={limit})") :], f", dfa_size_limit={limit})")
             self.assertEqual(repr(pickle.loads(pickle.dumps(made))), repr(made))
-        with self.assertRaises(ValueError):
-            GlobSet(globs, dfa_size_limit=-1)
+        self.assertEqual(repr(GlobSet([], dfa_size_limit=Number(7))), "GlobSet([], dfa_size_limit=7)")
+        for wrong in [-1, Number(-1)]:
+            with self.assertRaises(ValueError):
+                GlobSet(globs, dfa_size_limit=wrong)
 
     def test_subclasses(self):
         class Named(GlobSet):

@@ -20,7 +20,7 @@ import globset
 from globset import IgnoreRules, IgnoreStack, ignore
 from globset.ignore import Decision
 from globset.relations import unreachable_rules
-from test_globset import IS_CTYPES, TextPath, run_python
+from test_globset import IS_CTYPES, Number, TextPath, run_python
 
 # Lines, a path, and the decision by git's rule, by the nearest decision, and about the path alone: the line, which is negative if
 # it has `!`, or 0. From docs/GIT_IGNORE.md, and from `git check-ignore`.
@@ -197,7 +197,8 @@ class Stack(unittest.TestCase):
         for place in [(0, 0), (0, 2), (1, 4), (2, 1), (-1, 1), (0, -1), (2**63, 1), (0, 2**200)]:
             with self.assertRaisesRegex(IndexError, "^there is no ignore file or line of this index$"):
                 stack.line_text(*place)
-        for place in [("a", 1), (0, None)]:
+        self.assertEqual(stack.line_text(Number(1), Number(2)), "!b")
+        for place in [("a", 1), (0, None), (0, 1.0)]:
             self.assertRaises(TypeError, stack.line_text, *place)
         stack.leave()
         self.assertRaises(IndexError, stack.line_text, 1, 1)

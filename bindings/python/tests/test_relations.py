@@ -7,6 +7,7 @@ import globset
 from globset import Glob, GlobError, GlobSet, IgnoreRules, IgnoreStack, relations
 from globset.relations import Coverage, Decides, Domain, Intersection, Reachability, RuleReachability
 from globset.relations import covering, overlap, unreachable, unreachable_rules
+from test_globset import Number
 
 COVERED = [
     ("*.c", ["*"], True, True),
@@ -129,7 +130,8 @@ class Relations(unittest.TestCase):
         self.assertEqual(covering("a", ["a"], limit=0), Coverage(None, None))
         self.assertEqual(overlap("a", "a", limit=0), Intersection(None, None))
         self.assertEqual(unreachable(["a", "a"], limit=0), [Reachability(None, None, None)] * 2)
-        self.assertEqual(covering("a", ["a"], limit=10**30), Coverage(True, None))
+        for limit in [10**30, Number(1000)]:
+            self.assertEqual(covering("a", ["a"], limit=limit), Coverage(True, None))
         with self.assertRaises(ValueError):
             covering("a", ["a"], limit=-1)
 
