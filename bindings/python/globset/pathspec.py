@@ -21,6 +21,7 @@ ignored.
 
 from __future__ import annotations
 
+import codecs
 import os
 from dataclasses import dataclass
 from itertools import islice
@@ -314,10 +315,11 @@ def _patterns_of(factory: Any, lines: Any) -> List[GitIgnorePattern]:
 
 def _include_of(line: bytes) -> Optional[bool]:
     """Returns whether a line includes paths, if git can read it. Its text ends before a NUL, and has no spaces at its end."""
-    text = line[:-1] if line.endswith(b"\n") else line
-    text = (text[:-1] if text.endswith(b"\r") else text).partition(b"\0")[0]
-    while text.endswith(b" ") and (len(text) - 1 - len(text[:-1].rstrip(b"\\"))) % 2 == 0:
-        text = text[:-1]
+    # Like a file, it may begin with a byte order mark.
+    text = line[len(codecs.BOM_UTF8) :] if line.startswith(codecs.BOM_UTF8) else line
+    text = text[:-1] if text.endswith(b"\n") else text
+    # A space that a `\` escapes stays. Without it the text has a pattern, too.
+    text = (text[:-1] if text.endswith(b"\r") else text).partition(b"\0")[0].rstrip(b" ")
     is_negated = text.startswith(b"!")
     if text.startswith(b"#") or text[is_negated:] in (b"", b"/"):
         return None
