@@ -208,7 +208,10 @@ class PathSpec:
     def match_entries(
         self, entries: Iterable[TreeEntry], separators: _Separators = None, *, negate: Optional[bool] = None
     ) -> Iterator[TreeEntry]:
-        """Yields the entries of a tree that are included, or with ``negate`` the others. A directory's entry counts as one."""
+        """Yields the entries of a tree that are included, or with ``negate`` the others.
+
+        The entry of a directory, and of a link to one, counts as a directory.
+        """
         named = ((entry, util.normalize_file(entry.path, separators) + "/" * entry.is_dir()) for entry in _many(entries))
         return self._matching(named, bool(negate))
 
@@ -217,9 +220,11 @@ class PathSpec:
     ) -> Iterator[TreeEntry]:
         """Yields the entries below a directory that are included, with their paths relative to it.
 
-        ``root``, ``on_error`` and ``follow_links`` are those of ``util.iter_tree_entries``, which says what is raised.
+        ``root``, ``on_error`` and ``follow_links`` are those of ``util.iter_tree_entries``, which says what is raised. A link
+        that is not followed is no directory.
         """
-        return self.match_entries(util.iter_tree_entries(root, on_error, follow_links), negate=negate)
+        entries = util.iter_tree_entries(root, on_error, follow_links)
+        return self._matching(((entry, entry.path + "/" * entry.is_dir(follow_links)) for entry in entries), bool(negate))
 
     def match_tree_files(
         self, root: _Path, on_error: OnError = None, follow_links: Optional[bool] = None, *, negate: Optional[bool] = None

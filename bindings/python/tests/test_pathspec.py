@@ -168,6 +168,9 @@ class Trees(unittest.TestCase):
         self.assertEqual([error.filename for error in errors], [os.path.join(self.top, "broken.py")])
         found = ["a.py", "link", "src/a.py", "src/build/b.py"]
         self.assertEqual(sorted(spec.match_tree_files(self.top, follow_links=False)), found)
+        for follow_links, found in [(True, ["link", "link/a.py", "link/build", "link/build/b.py"]), (False, [])]:
+            entries = PathSpec.from_lines("gitwildmatch", ["link/"]).match_tree_entries(self.top, follow_links=follow_links)
+            self.assertEqual(sorted(entry.path for entry in entries), found)
         os.symlink("..", os.path.join(self.top, "src", "up"))
         with self.assertRaises(util.RecursionError) as raised:
             list(spec.match_tree_files(self.top))
