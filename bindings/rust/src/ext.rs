@@ -266,7 +266,7 @@ impl Searcher {
         self.raw.as_mut().map_or(&[], |searcher| searcher.matches(path.path()))
     }
 
-    /// The indexes of the globs that match each path, by one call of the library for all paths.
+    /// The indexes of the globs that match each path.
     ///
     /// # Examples
     ///
@@ -283,15 +283,11 @@ impl Searcher {
         P: AsRef<Path>,
         I: IntoIterator<Item = P>,
     {
-        let (mut bytes, mut ends) = (Vec::new(), Vec::new());
+        let (mut indexes, mut ends) = (Vec::new(), Vec::new());
         for path in paths {
-            bytes.extend_from_slice(Candidate::new(path.as_ref()).path());
-            ends.push(bytes.len());
+            indexes.extend_from_slice(self.matches(path));
+            ends.push(indexes.len());
         }
-        let (indexes, ends) = match &mut self.raw {
-            Some(searcher) => searcher.matches_many(&bytes, &ends),
-            None => (Vec::new(), vec![0; ends.len()]),
-        };
         Matches { indexes, ends }
     }
 

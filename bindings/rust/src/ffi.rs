@@ -7,7 +7,7 @@
 //!   At the exported functions it is never null, at length 0 too." They come from slices, strings and vectors, which are
 //!   borrowed during the call; a pointer to a result comes from a local variable.
 //! - "A handle is one that a call of this library wrote, or a copy of that. The caller neither reads nor writes through `at`."
-//!   Handles are private to these files, and are made by [`Owned::made`] alone.
+//!   Handles are private to these files, and none is used before a call that wrote it has returned `DONE`.
 //! - "No call is made from a signal handler, nor in the child of a `fork` of a process with several threads." Safe Rust can do
 //!   neither.
 //! - "There is stack for a call". Rust has a guard page at the end of each stack.
@@ -111,18 +111,6 @@ extern "C" {
     fn globset_raw_searcher_matches_all(searcher: *mut Owned, path: *const u8, path_len: usize) -> Status;
     fn globset_raw_searcher_find(searcher: *mut Owned, path: *const u8, path_len: usize, count: *mut usize) -> Status;
     fn globset_raw_searcher_found(searcher: *mut Owned, indexes: *mut Indexes) -> Status;
-    fn globset_raw_searcher_matches_many(
-        searcher: *mut Owned,
-        paths: *const u8,
-        paths_len: usize,
-        ends: *const usize,
-        ends_len: usize,
-        index_ends: *mut usize,
-        index_ends_len: usize,
-        room: *mut usize,
-        room_len: usize,
-        needed: *mut usize,
-    ) -> Status;
     fn globset_raw_searcher_can_match_below(searcher: *mut Owned, folder: *const u8, folder_len: usize) -> Status;
     fn globset_raw_escape(
         text: *const u8,
@@ -455,38 +443,6 @@ impl Searcher {
         // SAFETY: "they may be read until the next call that the searcher is passed to". The searcher is borrowed for as long
         // as they are. They are as many as the call before told, which is not 0.
         unsafe { slice::from_raw_parts(indexes.at, indexes.count) }
-    }
-
-    /// The indexes of many paths, those of the first path first, and for each path where its indexes end. The paths are the bytes
-    /// up to each end, which have to be in order.
-    pub(crate) fn matches_many(&mut self, paths: &[u8], ends: &[usize]) -> (Vec<usize>, Vec<usize>) {
-        let (mut room, mut index_ends) = (vec![0; ends.len()], vec![0; ends.len()]);
-        loop {
-            let mut needed = 0;
-            // SAFETY: "Finds the indexes of each of many paths".
-            let status = unsafe {
-                globset_raw_searcher_matches_many(
-                    &mut self.0,
-                    paths.as_ptr(),
-                    paths.len(),
-                    ends.as_ptr(),
-                    ends.len(),
-                    index_ends.as_mut_ptr(),
-                    index_ends.len(),
-                    room.as_mut_ptr(),
-                    room.len(),
-                    &mut needed,
-                )
-            };
-            match status {
-                DONE => {
-                    room.truncate(needed);
-                    return (room, index_ends);
-                }
-                TOO_SMALL => room = vec![0; needed],
-                status => unexpected(status),
-            }
-        }
     }
 }
 
