@@ -173,11 +173,11 @@ impl Gitignore {
     ///
     /// # Panics
     ///
-    /// If the path is absolute and not below the root.
+    /// If there is a rule, and the path is absolute and not below the root.
     pub fn matched_path_or_any_parents<P: AsRef<Path>>(&self, path: P, is_dir: bool) -> Match<&Glob> {
         let path = path.as_ref();
         let below = self.below_root(path);
-        assert!(!below.has_root(), "{} is not below {}", path.display(), self.root.display());
+        assert!(self.is_empty() || !below.has_root(), "{} is not below {}", path.display(), self.root.display());
         self.decided(&below, is_dir, By::Nearest)
     }
 

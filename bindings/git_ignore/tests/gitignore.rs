@@ -122,6 +122,7 @@ fn rules_are_counted() {
     assert!(!matcher.is_empty());
     let empty = Gitignore::empty();
     assert!(empty.is_empty() && empty.matched("a", false).is_none() && empty.matched_by_git("a/b", true).is_none());
+    assert!(empty.matched_path_or_any_parents("/x/a", false).is_none());
     assert_eq!((empty.len(), empty.num_ignores(), empty.num_whitelists()), (0, 0, 0));
     assert_eq!(empty.path(), Path::new(""));
 }
