@@ -261,7 +261,9 @@ impl Gitignore {
 /// The path without `.`, and with one `/` between components.
 fn plain(path: &Path) -> Cow<'_, Path> {
     let is_plain = |component: &[u8]| !component.is_empty() && component != b".";
-    if path.as_os_str().as_bytes().split(|byte| *byte == b'/').all(is_plain) {
+    let bytes = path.as_os_str().as_bytes();
+    let below_top = bytes.strip_prefix(b"/").unwrap_or(bytes);
+    if below_top.is_empty() || below_top.split(|byte| *byte == b'/').all(is_plain) {
         Cow::Borrowed(path)
     } else {
         Cow::Owned(path.components().filter(|component| *component != Component::CurDir).collect())
@@ -376,4 +378,21 @@ fn unread_lines(file: &[u8]) -> Vec<usize> {
 /// Whether git can read the line.
 fn is_read(line: &[u8]) -> bool {
     unread_lines(line).is_empty()
+}
+
+#[cfg(test)]
+mod tests {
+    use super::*;
+
+    #[test]
+    fn a_plain_path_is_not_copied() {
+        for path in ["", "/", "a", "a/b", "/a", "/a/b", "..", "/a/../b"] {
+            assert!(matches!(plain(Path::new(path)), Cow::Borrowed(same) if same.as_os_str() == path), "{path}");
+        }
+        let rows =
+            [(".", ""), ("./a", "a"), ("a/", "a"), ("//a", "/a"), ("/a//b", "/a/b"), ("/./a/.", "/a"), ("/.", "/")];
+        for (path, wanted) in rows {
+            assert_eq!(plain(Path::new(path)).as_os_str(), wanted, "{path}");
+        }
+    }
 }
