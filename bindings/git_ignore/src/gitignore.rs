@@ -287,7 +287,7 @@ impl GitignoreBuilder {
     pub fn add<P: AsRef<Path>>(&mut self, path: P) -> Option<Error> {
         let path = path.as_ref();
         match fs::read(path) {
-            Ok(file) => self.add_file(Some(path), &file).map(|err| err.with_path(path)),
+            Ok(file) => self.add_file(path, &file),
             Err(err) => Some(Error::Io(err).with_path(path)),
         }
     }
@@ -343,15 +343,15 @@ impl GitignoreBuilder {
     }
 
     /// Adds the lines of a file that git can read, and returns the others as errors.
-    fn add_file(&mut self, from: Option<&Path>, file: &[u8]) -> Option<Error> {
+    fn add_file(&mut self, path: &Path, file: &[u8]) -> Option<Error> {
         let file = file.strip_prefix(b"\xef\xbb\xbf").unwrap_or(file);
         let unread = unread_lines(file);
         let mut errs = Vec::new();
         for (number, line) in (1..).zip(file.split(|byte| *byte == b'\n')) {
             if unread.binary_search(&number).is_ok() {
-                errs.push(Error::of_line(line::text(line)).with_line(number));
+                errs.push(Error::of_line(line::text(line)).with_line(number).with_path(path));
             } else {
-                self.push(from, line);
+                self.push(Some(path), line);
             }
         }
         Error::all(errs)

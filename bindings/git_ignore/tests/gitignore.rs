@@ -226,6 +226,14 @@ fn files_are_read() {
     assert!(builder.add(&file).is_none());
     let both = builder.build().expect("a matcher");
     assert!(both.matched("a.o", false).is_whitelist() && both.matched("b.o", false).is_ignore());
+
+    fs::write(&file, "[a\nb\n[c\n").expect("a file");
+    let Some(Error::Partial(errs)) = builder.add(&file) else { panic!("two lines cannot be read") };
+    for (err, wanted) in errs.iter().zip([1, 3]) {
+        let Error::WithPath { path, err } = err else { panic!("{err:?}") };
+        assert!(*path == file && matches!(**err, Error::WithLineNumber { line, .. } if line == wanted));
+    }
+    assert_eq!(errs.len(), 2);
 }
 
 #[test]
