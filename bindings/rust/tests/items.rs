@@ -105,13 +105,7 @@ fn errors_have_their_kind_and_their_glob() {
 
 #[test]
 fn errors_have_their_place() {
-    let rows = [
-        ("a[b", 1),
-        ("é[a-z][z-a][y-b]", 7),
-        ("é{a,b}}", 7),
-        ("é/{*.c,*.{h,hpp}", 3),
-        ("é\\", 2),
-    ];
+    let rows = [("a[b", 1), ("é[a-z][z-a][y-b]", 7), ("é{a,b}}", 7), ("é/{*.c,*.{h,hpp}", 3), ("é\\", 2)];
     for (text, offset) in rows {
         assert_eq!(ext::offset(&Glob::new(text).unwrap_err()), offset, "{text}");
     }
