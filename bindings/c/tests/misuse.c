@@ -439,6 +439,8 @@ static void status_texts(void) {
     CHECK(strcmp(globset_status_text(GLOBSET_ENOMEM), "memory ran out") == 0);
     CHECK(strcmp(globset_status_text(GLOBSET_ENULL), "a pointer is null that must not be") == 0);
     CHECK(strcmp(globset_status_text(GLOBSET_ENONE), "the error is none, so it says nothing") == 0);
+    CHECK(strstr(globset_status_text(GLOBSET_EOPTIONS), "no such domain or choice") != NULL);
+    CHECK(strstr(globset_status_text(GLOBSET_ELENGTH), "a length, a size or a count") != NULL);
     CHECK(strcmp(globset_status_text(GLOBSET_EINDEX - 1), "no result of this library") == 0);
     CHECK(strcmp(globset_status_text(2), globset_status_text(GLOBSET_EINDEX - 1)) == 0);
     CHECK(globset_status_text(-2147483647 - 1) != NULL && globset_status_text(2147483647) != NULL);
