@@ -421,8 +421,8 @@ GLOBSET_CHECKED int globset_ignore_decide_many(globset_ignore *ignore, const cha
                                                const size_t *end_offsets, size_t count, uint32_t by, uint8_t *answers);
 
 /* Finds the rules that decide about `count` paths, which are passed as to globset_ignore_decide_many. GLOBSET_OK: rules[i]
- * is the rule that decides about path number i. Otherwise as globset_ignore_decide_many: the call takes as many bytes as
- * there are in `rules`, and gives them back. */
+ * is the rule that decides about path number i. Otherwise as globset_ignore_decide_many, but that the call takes a few
+ * times as many bytes as there are in `rules`. */
 GLOBSET_CHECKED int globset_ignore_rules_many(globset_ignore *ignore, const char *paths, size_t length,
                                               const size_t *end_offsets, size_t count, uint32_t by,
                                               globset_told_rule *rules);

@@ -163,7 +163,7 @@ impl IgnoreStack {
     }
 
     /// What is decided about each of many paths, in one call of the library. A path that ends with `/` is of a directory, and is
-    /// decided about without that `/`. The call takes a byte for each path, and the bytes of all paths.
+    /// decided about without that `/`. Memory is linear in the bytes of all paths and in their number.
     ///
     /// ```
     /// use globset::ignore::{By, Decision, IgnoreStack};
@@ -188,8 +188,8 @@ impl IgnoreStack {
         decisions.collect()
     }
 
-    /// The rule that decides about each of many paths, or `None` if no rule decides, in one call of the library. The paths are as
-    /// those of [`IgnoreStack::decide_many`], and the call takes a rule in place of each byte.
+    /// The rule that decides about each of many paths, or `None` if no rule decides, in one call of the library. The paths and the
+    /// memory are as those of [`IgnoreStack::decide_many`].
     ///
     /// ```
     /// use globset::ignore::{By, IgnoreStack, Rule};
