@@ -568,12 +568,20 @@ int globset_ignore_add_file(globset_ignore *ignore, const char *file, size_t len
     return result_of(globset_raw_ignore_add_file(&owned, bytes.at, bytes.length));
 }
 
+/* Takes a `/` off the end of a path. Returns whether there was one, and so the path is that of a directory. */
+static bool take_slash(struct bytes *path) {
+    if (path->length == 0 || path->at[path->length - 1] != '/') return false;
+    path->length--;
+    return true;
+}
+
 int globset_ignore_enter(globset_ignore *ignore, const char *name, size_t length) {
     globset_owned owned = own(ignore);
     struct bytes bytes;
     int result = find_bytes(name, length, &bytes);
     if (ignore == NULL) return GLOBSET_ENULL;
     if (result != GLOBSET_OK) return result;
+    (void)take_slash(&bytes);
     return result_of(globset_raw_ignore_enter(&owned, bytes.at, bytes.length));
 }
 
@@ -588,12 +596,14 @@ int globset_ignore_is_ignored(globset_ignore *ignore, const char *path, size_t l
     globset_owned owned = own(ignore);
     globset_rule found = {0, 0};
     struct bytes bytes;
+    bool is_folder = is_directory != 0;
     globset_status status;
     int result = find_bytes(path, length, &bytes);
     if (rule != NULL) *rule = found;
     if (ignore == NULL) return GLOBSET_ENULL;
     if (result != GLOBSET_OK) return result;
-    status = globset_raw_ignore_decide(&owned, bytes.at, bytes.length, is_directory != 0, by, &found.file, &found.line);
+    if (take_slash(&bytes)) is_folder = true;
+    status = globset_raw_ignore_decide(&owned, bytes.at, bytes.length, is_folder, by, &found.file, &found.line);
     if (rule != NULL) *rule = found;
     return result_of(status);
 }

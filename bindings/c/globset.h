@@ -396,19 +396,20 @@ GLOBSET_CHECKED int globset_ignore_new(uint32_t options, globset_ignore **ignore
  * file. GLOBSET_ENOMEM. */
 GLOBSET_CHECKED int globset_ignore_add_file(globset_ignore *ignore, const char *file, size_t length);
 
-/* Enters the directory of this name: one component, or several with a `/` between them. It decides about the directory as
- * globset_ignore_is_ignored does by GLOBSET_BY_GIT. GLOBSET_ENOMEM. */
+/* Enters the directory of this name: one component, or several with a `/` between them. A `/` at the end is left out. It
+ * decides about the directory as globset_ignore_is_ignored does by GLOBSET_BY_GIT. GLOBSET_ENOMEM. */
 GLOBSET_CHECKED int globset_ignore_enter(globset_ignore *ignore, const char *name, size_t length);
 
 /* Goes up to where the walk was before the last globset_ignore_enter, without the files that were added since. In the top
  * directory it does nothing. It takes no memory. */
 GLOBSET_CHECKED int globset_ignore_leave(globset_ignore *ignore);
 
-/* Returns whether a rule ignores the path. `is_directory` is 0 if it is no directory. `rule` is the rule that decides: if
- * the answer is 0 and the line is not 0, that rule keeps the path. After an error both members are 0. Time is a pass over
- * the path for each file and, if a rule matches a directory above it and `by` is not GLOBSET_BY_PATH, at most such passes
- * for each directory that the path names. GLOBSET_EOPTIONS: `by` is none of those above.
- * GLOBSET_ENOMEM: the walk keeps the memory that it takes for later calls. */
+/* Returns whether a rule ignores the path. `is_directory` is 0 if it is no directory. A path that ends with `/` is of a
+ * directory, and is decided about without that `/`. `rule` is the rule that decides: if the answer is 0 and the line is
+ * not 0, that rule keeps the path. After an error both members are 0. Time is a pass over the path for each file and, if a
+ * rule matches a directory above it and `by` is not GLOBSET_BY_PATH, at most such passes for each directory that the path
+ * names. GLOBSET_EOPTIONS: `by` is none of those above. GLOBSET_ENOMEM: the walk keeps the memory that it takes for later
+ * calls. */
 GLOBSET_CHECKED int globset_ignore_is_ignored(globset_ignore *ignore, const char *path, size_t length, int is_directory,
                                               uint32_t by, globset_rule *rule);
 

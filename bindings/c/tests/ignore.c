@@ -76,6 +76,7 @@ static void what_decides(void) {
         {"src", 1, {2, 2, 2}},      {"src/a", 1, {2, 3, 3}},      {"src/a/b", 0, {2, 3, NONE}},
         {"src/b", 0, {2, 2, NONE}}, {"b", 0, {NONE, NONE, NONE}}, {"x/out", 0, {NONE, NONE, NONE}},
         {"x/out", 1, {4, 4, 4}},    {"x/out", -7, {4, 4, 4}},     {"x/out/b", 0, {4, 4, NONE}},
+        {"x/out/", 0, {4, 4, 4}},   {"src/", 1, {2, 2, 2}},       {"/", 0, {NONE, NONE, NONE}},
     };
     for (size_t i = 0; i < sizeof rows / sizeof *rows; i++)
         for (uint32_t by = GLOBSET_BY_GIT; by <= GLOBSET_BY_PATH; by++) {
@@ -105,6 +106,8 @@ static void walk(void) {
     CHECK(decides(ignore, "keep", 0, GLOBSET_BY_GIT, 1, 0, 2) &&
           decides(ignore, "keep", 0, GLOBSET_BY_NEAREST, 0, 2, 1));
     CHECK(decides(ignore, "b", 0, GLOBSET_BY_NEAREST, 1, 0, 2) && decides(ignore, "b", 0, GLOBSET_BY_PATH, 0, 0, NONE));
+    CHECK(globset_ignore_leave(ignore) == GLOBSET_OK && globset_ignore_enter(ignore, TEXT("out/")) == GLOBSET_OK);
+    CHECK(decides(ignore, "b", 0, GLOBSET_BY_GIT, 1, 0, 2));
     CHECK(globset_ignore_leave(ignore) == GLOBSET_OK && globset_ignore_leave(ignore) == GLOBSET_OK);
     CHECK(decides(ignore, "a.o", 0, GLOBSET_BY_GIT, 0, 1, 1));
     globset_ignore_free(ignore);

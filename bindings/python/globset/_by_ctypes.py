@@ -252,8 +252,9 @@ class IgnoreFiles:
         _library.raise_unless_done(self._call(_library.ignore_add_file, data, len(data)))
 
     def enter(self, name: Path, /) -> None:
-        """Goes down into the directory of a name."""
+        """Goes down into the directory of a name, without a ``/`` at its end."""
         data = _bytes_of(name)
+        data = data[:-1] if data.endswith(b"/") else data
         _library.raise_unless_done(self._call(_library.ignore_enter, data, len(data)))
 
     def leave(self) -> None:

@@ -65,10 +65,25 @@ static PyObject *ignore_add_file(PyObject *object, PyObject *file) {
     return none_if_done(status);
 }
 
+/* Reads a path without a `/` at its end, which says that it is that of a directory. */
+static int read_entry(PyObject *asked, int *is_directory, struct path *path) {
+    if (read_path(asked, path) < 0) return -1;
+    if (path->length == 0 || path->at[path->length - 1] != '/') return 0;
+    if (*is_directory == 0) {
+        Py_DECREF(path->holder);
+        PyErr_SetString(PyExc_ValueError, "a path that ends with / is that of a directory");
+        return -1;
+    }
+    path->length--;
+    *is_directory = 1;
+    return 0;
+}
+
 static PyObject *ignore_enter(PyObject *object, PyObject *name) {
     struct ignore_files *self = (struct ignore_files *)object;
+    int is_directory = 1;
     struct path path;
-    if (read_path(name, &path) < 0) return NULL;
+    if (read_entry(name, &is_directory, &path) < 0) return NULL;
     begin_turn(self);
     globset_status status = globset_raw_ignore_enter(&self->ignore, path.at, path.length);
     end_turn(self);
@@ -83,20 +98,6 @@ static PyObject *ignore_leave(PyObject *object, PyObject *unused) {
     globset_status status = globset_raw_ignore_leave(&self->ignore);
     end_turn(self);
     return none_if_done(status);
-}
-
-/* Reads a path without a `/` at its end, which says that it is that of a directory. */
-static int read_entry(PyObject *asked, int *is_directory, struct path *path) {
-    if (read_path(asked, path) < 0) return -1;
-    if (path->length == 0 || path->at[path->length - 1] != '/') return 0;
-    if (*is_directory == 0) {
-        Py_DECREF(path->holder);
-        PyErr_SetString(PyExc_ValueError, "a path that ends with / is that of a directory");
-        return -1;
-    }
-    path->length--;
-    *is_directory = 1;
-    return 0;
 }
 
 /* A rule as Python sees it, which is None if the line is 0. */

@@ -232,7 +232,10 @@ class IgnoreStack(_Decides):
         self._files.add_file(_file_of(lines))
 
     def enter(self, name: Path) -> None:
-        """Goes down into the directory of a name, or of several names with ``/`` between them, which ``leave`` leaves at once."""
+        """Goes down into the directory of a name, or of several names with ``/`` between them, which ``leave`` leaves at once.
+
+        A ``/`` at the end is left out.
+        """
         self._files.enter(name)
 
     def leave(self) -> None:

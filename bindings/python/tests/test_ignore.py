@@ -175,6 +175,10 @@ class Stack(unittest.TestCase):
         stack.leave()
         stack.leave()
         self.assertEqual(stack.decide("top.log"), Decision(1, 1, True))
+        for name in ["x/", b"x/", pathlib.PurePosixPath("x/")]:
+            stack.enter(name)
+            self.assertEqual(stack.decide("y"), Decision(0, 2, False))
+            stack.leave()
         for call in [stack.enter, stack.add_file]:
             self.assertRaises(TypeError, call, 7)
 

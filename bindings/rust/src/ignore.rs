@@ -25,7 +25,7 @@
 use std::{fmt, os::unix::ffi::OsStrExt, path::Path};
 
 use crate::{
-    ffi::ignore::{Ignore, IGNORE_CASE},
+    ffi::ignore::{Decided, Ignore, IGNORE_CASE},
     relations::Domain,
 };
 
@@ -125,9 +125,11 @@ impl IgnoreStack {
         }
     }
 
-    /// Enters the directory of this name: one component, or several. It decides about the directory by [`By::Git`].
+    /// Enters the directory of this name: one component, or several. A `/` at the end is left out. It decides about the directory by
+    /// [`By::Git`].
     pub fn enter(&mut self, name: impl AsRef<Path>) {
-        self.ignore.enter(name.as_ref().as_os_str().as_bytes());
+        let (name, _) = without_slash(name.as_ref());
+        self.ignore.enter(name);
         self.files.push(0);
     }
 
@@ -140,12 +142,12 @@ impl IgnoreStack {
         }
     }
 
-    /// Whether a rule ignores the path.
+    /// Whether a rule ignores the path. A path that ends with `/` is of a directory, and is decided about without that `/`.
     pub fn is_ignored(&mut self, path: impl AsRef<Path>, is_dir: bool, by: By) -> bool {
-        self.ignore.decide(path.as_ref().as_os_str().as_bytes(), is_dir, by.number()).is_ignored
+        self.decided(path.as_ref(), is_dir, by).is_ignored
     }
 
-    /// The rule that decides about the path, or `None` if no rule decides.
+    /// The rule that decides about the path, or `None` if no rule decides. A `/` at the end is as for [`IgnoreStack::is_ignored`].
     ///
     /// ```
     /// use globset::ignore::{By, IgnoreStack, Rule};
@@ -157,9 +159,14 @@ impl IgnoreStack {
     /// assert_eq!(ignore.decide("a.c", false, By::Git), None);
     /// ```
     pub fn decide(&mut self, path: impl AsRef<Path>, is_dir: bool, by: By) -> Option<Rule> {
-        let decided = self.ignore.decide(path.as_ref().as_os_str().as_bytes(), is_dir, by.number());
+        let decided = self.decided(path.as_ref(), is_dir, by);
         let rule = Rule { file: decided.file, line: decided.line, is_ignored: decided.is_ignored };
         (decided.line != 0).then_some(rule)
+    }
+
+    fn decided(&mut self, path: &Path, is_dir: bool, by: By) -> Decided {
+        let (name, has_slash) = without_slash(path);
+        self.ignore.decide(name, is_dir || has_slash, by.number())
     }
 
     /// What is decided about each of many paths, in one call of the library. A path that ends with `/` is of a directory, and is
@@ -269,6 +276,12 @@ impl IgnoreStack {
     pub fn unreachable(&mut self, file: usize, domain: Domain, limit: usize) -> Option<Vec<(usize, Reachability)>> {
         self.ignore.unreachable(file, domain.number(), limit)
     }
+}
+
+/// The bytes of a path without a `/` at its end, and whether it has one.
+fn without_slash(path: &Path) -> (&[u8], bool) {
+    let bytes = path.as_os_str().as_bytes();
+    bytes.strip_suffix(b"/").map_or((bytes, false), |name| (name, true))
 }
 
 /// The bytes of paths one after another, and the end of each.

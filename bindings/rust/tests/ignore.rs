@@ -77,6 +77,8 @@ fn what_decides() {
         ("src/a", true, Some(1), Some(2), Some(2)),
         ("src/a/b", false, Some(1), Some(2), None),
         ("src/b", false, Some(1), Some(1), None),
+        ("src/", false, Some(1), Some(1), Some(1)),
+        ("src/a/", true, Some(1), Some(2), Some(2)),
         ("b", false, None, None, None),
     ];
     for (path, is_dir, by_git, nearest, alone) in rows {
@@ -114,6 +116,9 @@ fn a_file_in_an_ignored_directory_has_no_effect_by_gits_rule() {
     assert_eq!(stack.decide("keep", false, By::Nearest), Some(Rule { file: 1, line: 1, is_ignored: false }));
     assert_eq!(stack.decide("b", false, By::Nearest), Some(Rule { file: 0, line: 1, is_ignored: true }));
     assert_eq!(stack.decide("b", false, By::Path), None);
+    stack.leave();
+    stack.enter("out/");
+    assert_eq!(stack.decide("b", false, By::Git), Some(Rule { file: 0, line: 1, is_ignored: true }));
 }
 
 #[test]
