@@ -345,22 +345,28 @@ class Threads(unittest.TestCase):
         """What is called at the end of the interpreter does not wait for threads that ended in a call."""
         ran = run_python(
             """
-import threading, time
+import os, threading, time
 from globset import IgnoreRules
-rules, paths = IgnoreRules(["*a*[xy]*c"]), [b"ab" * 1000 + b"c"] * 1000
 class Late:
-    def __init__(self): self.rules, self.me = rules, self
-    def __del__(self): self.rules.is_ignored("a")
-late = Late()
-def ask():
+    def __init__(self, rules): self.rules, self.write = rules, os.write
+    def __del__(self):
+        self.rules.is_ignored("a")
+        self.write(1, b"ended")
+# It is of another module, since a thread that runs keeps the names of its function's module.
+other = {}
+exec('''
+def ask(rules, paths):
     while True:
         rules.decide_many(paths)
+''', other)
+rules, paths = IgnoreRules(["*a*[xy]*c"]), [b"ab" * 1000 + b"c"] * 1000
+late = Late(rules)
 for _ in range(3):
-    threading.Thread(target=ask, daemon=True).start()
+    threading.Thread(target=other["ask"], args=(rules, paths), daemon=True).start()
 time.sleep(0.2)
 """
         )
-        self.assertEqual((ran.returncode, ran.stdout, ran.stderr), (0, b"", b""))
+        self.assertEqual((ran.returncode, ran.stdout, ran.stderr), (0, b"ended", b""))
 
     def test_signals(self):
         """A handler of a signal uses the object that the interrupted call uses."""
