@@ -10,6 +10,8 @@ from typing import Callable, Collection, Dict, Iterator, Optional, Tuple, Union
 __all__ = ["RecursionError", "TreeEntry", "append_dir_sep", "iter_tree_entries", "iter_tree_files", "normalize_file"]
 
 OnError = Optional[Callable[[OSError], object]]
+# The separators of the system other than `/`.
+_SEPARATORS = [separator for separator in (os.sep, os.altsep) if separator and separator != "/"]
 
 
 def append_dir_sep(path: "os.PathLike[str]") -> str:
@@ -33,7 +35,7 @@ def normalize_file(file: Union[str, "os.PathLike[str]"], separators: Optional[Co
     if not isinstance(text, str):
         raise TypeError(f"a path is str or os.PathLike, not {type(file).__name__}")
     if separators is None:
-        separators = [separator for separator in (os.sep, os.altsep) if separator and separator != "/"]
+        separators = _SEPARATORS
     for separator in separators:
         text = text.replace(separator, "/")
     return text[1:] if text.startswith("/") else text[2:] if text.startswith("./") else text

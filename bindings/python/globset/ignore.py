@@ -86,8 +86,8 @@ class _Decides:
         >>> [rules.is_ignored(path, by="nearest") for path in ["src/a/b.c", "src/lib/b.c"]]
         [True, False]
         """
-        decision = self.decide(path, is_dir, by)
-        return decision is not None and not decision.negated
+        decided = self._decided(path, is_dir, by)
+        return decided is not None and decided[0]
 
     def decide(self, path: Path, is_dir: Optional[bool] = None, by: By = "git") -> Optional[Decision]:
         """Returns the rule that decides about the path, or ``None`` if there is none. It raises what ``is_ignored`` raises.
@@ -95,7 +95,10 @@ class _Decides:
         >>> IgnoreRules("*.log\\n/docs").decide("docs/index.html")
         Decision(file=0, line=2, negated=False)
         """
-        return _decision_of(self._files.decide(path, -1 if is_dir is None else int(bool(is_dir)), _number_of(by)))
+        return _decision_of(self._decided(path, is_dir, by))
+
+    def _decided(self, path: Path, is_dir: Optional[bool], by: By) -> Optional[Tuple[bool, int, int]]:
+        return self._files.decide(path, -1 if is_dir is None else int(bool(is_dir)), _number_of(by))
 
     def decide_many(self, paths: Iterable[Path], by: By = "git") -> List[Optional[bool]]:
         """Returns for each path ``True`` if it is ignored, ``False`` if a rule keeps it, and ``None`` if no rule decides.

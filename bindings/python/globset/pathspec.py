@@ -173,7 +173,8 @@ class PathSpec:
         >>> PathSpec.from_lines("gitwildmatch", ["src/**/*.py"]).match_file("./src/a/b.py")
         True
         """
-        return bool(self.check_file(file, separators).include)
+        name = util.normalize_file(file, separators)
+        return bool(name) and self._state[1].is_ignored(name, by=self._by)
 
     def check_file(self, file: _AnyPath, separators: _Separators = None) -> CheckResult:
         """Returns whether the path is included, and the index of the pattern that decides.
