@@ -1,79 +1,60 @@
-//! `walk FOLDER GLOB..` prints the files below a directory that match one of the globs, but those that a file `.ignore`
-//! ignores.
+//! `walk FOLDER GLOB..` prints the files below a directory that match one of the globs, but those that files `.ignore` ignore.
 //!
-//! A line of `.ignore` is read as in `.gitignore`: the last line that matches a path decides, and the file of a directory
-//! further down before that of one further up. An ignored directory is not opened.
+//! A file `.ignore` is read as git reads a `.gitignore`. A directory is not opened if it is ignored, or if no path below it can
+//! match.
 
-use globset::{Glob, GlobBuilder, GlobSet};
-use std::{env, error::Error, fs, io, path::Path, path::PathBuf, process::ExitCode};
+use globset::{
+    ext::Searcher,
+    ignore::{By, IgnoreStack},
+    Glob, GlobSet,
+};
+use std::{env, error::Error, fs, io, path::Path, process::ExitCode};
 
-/// What a line of an ignore file says of the paths that its globs match.
-struct Line {
-    ignores: bool,
-    folders_only: bool,
+struct Walk {
+    wanted: Searcher,
+    /// The ignore files of the directory that the walk is in, and of those above it.
+    ignored: IgnoreStack,
+    found: usize,
 }
 
-/// The lines of one ignore file. Glob number `i` is of line number `i`.
-struct Rules {
-    globs: GlobSet,
-    lines: Vec<Line>,
-}
-
-impl Rules {
-    fn read(text: &str) -> Result<Rules, globset::Error> {
-        let (mut globs, mut lines) = (Vec::new(), Vec::new());
-        for line in text.lines().map(str::trim_end).filter(|line| !line.is_empty() && !line.starts_with('#')) {
-            let (ignores, line) = line.strip_prefix('!').map_or((true, line), |rest| (false, rest));
-            let (folders_only, line) = line.strip_suffix('/').map_or((false, line), |rest| (true, rest));
-            // A line with a `/` is a path from the directory of the file on, and any other a name in any directory.
-            let glob = if line.contains('/') { line.trim_start_matches('/').into() } else { format!("**/{line}") };
-            globs.push(GlobBuilder::new(&glob).literal_separator(true).build()?);
-            lines.push(Line { ignores, folders_only });
+impl Walk {
+    /// Prints what is below a directory, whose path is from the top.
+    fn open(&mut self, top: &Path, folder: &Path) -> io::Result<()> {
+        let at = top.join(folder);
+        match fs::read(at.join(".ignore")) {
+            Err(error) if error.kind() == io::ErrorKind::NotFound => {}
+            read => self.ignored.add_file(read?),
         }
-        Ok(Rules { globs: GlobSet::new(globs)?, lines })
-    }
-
-    /// Whether a path relative to the directory of the file is ignored, or `None` if no line matches it.
-    fn ignore(&self, path: &Path, is_folder: bool) -> Option<bool> {
-        let found = self.globs.matches(path).into_iter().rev().map(|index| &self.lines[index]);
-        found.into_iter().find(|line| is_folder || !line.folders_only).map(|line| line.ignores)
-    }
-}
-
-/// Prints what is below a directory, and returns how many paths. The rules are those of the directories above it, each with its
-/// directory.
-fn walk(top: &Path, at: &Path, wanted: &GlobSet, rules: &mut Vec<(PathBuf, Rules)>) -> Result<usize, Box<dyn Error>> {
-    let text = match fs::read_to_string(at.join(".ignore")) {
-        Err(error) if error.kind() == io::ErrorKind::NotFound => String::new(),
-        read => read?,
-    };
-    rules.push((at.to_path_buf(), Rules::read(&text)?));
-    let mut entries = fs::read_dir(at)?.collect::<io::Result<Vec<_>>>()?;
-    entries.sort_by_key(|entry| entry.file_name());
-    let mut found = 0;
-    for entry in entries {
-        let (path, is_folder) = (entry.path(), entry.file_type()?.is_dir());
-        let relative = path.strip_prefix(top).unwrap_or(&path);
-        let says = |(folder, rules): &(PathBuf, Rules)| rules.ignore(path.strip_prefix(folder).ok()?, is_folder);
-        if rules.iter().rev().find_map(says) == Some(true) {
-            continue;
+        let mut entries = fs::read_dir(at)?.collect::<io::Result<Vec<_>>>()?;
+        entries.sort_by_key(|entry| entry.file_name());
+        for entry in entries {
+            let (name, is_folder) = (entry.file_name(), entry.file_type()?.is_dir());
+            let path = folder.join(&name);
+            if self.ignored.is_ignored(&name, is_folder, By::Git) {
+                continue;
+            }
+            if !is_folder && self.wanted.is_match(&path) {
+                println!("{}", path.display());
+                self.found += 1;
+            }
+            if is_folder && self.wanted.can_match_below(&path) {
+                self.ignored.enter(&name);
+                self.open(top, &path)?;
+                self.ignored.leave();
+            }
         }
-        if is_folder {
-            found += walk(top, &path, wanted, rules)?;
-        } else if wanted.is_match(relative) {
-            println!("{}", relative.display());
-            found += 1;
-        }
+        Ok(())
     }
-    rules.pop();
-    Ok(found)
 }
 
 fn run() -> Result<usize, Box<dyn Error>> {
     let mut words = env::args().skip(1);
-    let top = PathBuf::from(words.next().ok_or("usage: walk FOLDER GLOB..")?);
+    let top = words.next().ok_or("usage: walk FOLDER GLOB..")?;
     let globs = words.map(|word| Glob::new(&word)).collect::<Result<Vec<_>, _>>()?;
-    walk(&top, &top, &GlobSet::new(globs)?, &mut Vec::new())
+    let wanted = Searcher::new(&GlobSet::new(globs)?);
+    let mut walk = Walk { wanted, ignored: IgnoreStack::new(), found: 0 };
+    walk.open(Path::new(&top), Path::new(""))?;
+    Ok(walk.found)
 }
 
 fn main() -> ExitCode {
