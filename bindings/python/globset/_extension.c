@@ -403,8 +403,8 @@ struct set {
 
 static struct PyModuleDef definition;
 
-/* The class GlobBase of the module, which has this class or one of those that it is derived from. A class that another module in C
- * derives from GlobSetBase has that module. */
+/* The class GlobBase of the module, which has this class or one of those that it is derived from. A class that another module
+ * in C derives from GlobSetBase has that module. */
 static PyTypeObject *glob_type_of(PyTypeObject *type) {
     PyObject *module = NULL;
     while (type && !module) {
