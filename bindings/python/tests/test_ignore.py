@@ -10,6 +10,7 @@ import pickle
 import random
 import signal
 import subprocess
+import sys
 import tempfile
 import threading
 import unittest
@@ -20,7 +21,11 @@ import globset
 from globset import IgnoreRules, IgnoreStack, ignore
 from globset.ignore import Decision
 from globset.relations import unreachable_rules
-from test_globset import IS_CTYPES, Number, TextPath, run_python
+from test_globset import IS_CTYPES, TOP, Number, TextPath, run_python
+
+sys.path.append(os.path.join(TOP, "model"))
+import git_rules  # noqa: E402
+import ignore_files  # noqa: E402
 
 # Lines, a path, and the decision by git's rule, by the nearest decision, and about the path alone: the line, which is negative if
 # it has `!`, or 0. From docs/GIT_IGNORE.md, and from `git check-ignore`.
@@ -44,6 +49,8 @@ DECISIONS = [
     (["a\r\n", "b \n"], "b", 2, 2, 2),
 ]
 BY = ["git", "nearest", "path"]
+# What the model has for each of these.
+MODEL = [git_rules.rule_below, git_rules.nearest_rule, git_rules.files_rule]
 
 
 def line_of(decision):
@@ -62,6 +69,20 @@ class Rules(unittest.TestCase):
                     decision = None if line == 0 else Decision(0, abs(line), line < 0)
                     self.assertEqual(rules.rules_many([path, path], by), [decision] * 2)
                     self.assertEqual(rules.filter([path, path], by=by), [] if line > 0 else [path] * 2)
+
+    @unittest.skipIf(sys.version_info < (3, 9), "the model is for later versions of Python")
+    def test_random_files(self):
+        """Rules decide as the model does, which is compared with git."""
+        for seed in range(300):
+            ignore_case = seed % 2 == 1
+            text = ignore_files.ignore_file(random.Random(seed))
+            rules = IgnoreRules(text, ignore_case=ignore_case)
+            case = ignore_files.case_of(text, 20, ignore_case)
+            for path, (by, model) in itertools.product(case.paths, zip(BY, MODEL)):
+                with self.subTest(seed=seed, path=path, by=by):
+                    found = model(case.files, path, case.is_folder(path), ignore_case)
+                    wanted = None if found is None else Decision(0, found[1], found[2])
+                    self.assertEqual(rules.decide(path, case.is_folder(path), by), wanted)
 
     def test_forms_of_a_file(self):
         for lines in [["a", "!b"], ["a\n", b"!b\n"], "a\n!b", b"a\n!b\n", ("a\r\n", "!b"), iter(["a", "!b"])]:
