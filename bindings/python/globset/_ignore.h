@@ -3,7 +3,7 @@
 struct ignore_files {
     PyObject_HEAD
     globset_owned ignore;
-    /* Who makes a call of the library has it. No code of Python runs meanwhile, so no thread waits for itself. */
+    /* Who makes a call of the library has it. Meanwhile it runs no code of Python and does not wait for the interpreter's lock. */
     PyThread_type_lock turn;
 };
 
@@ -32,19 +32,24 @@ static void ignore_dealloc(PyObject *object) {
     end_object(object);
 }
 
-/* Begins a turn without the interpreter's lock. The turn has to end before that lock is taken again: a thread may never get it at
- * the interpreter's end, and the others would wait. */
-static void wait_for_turn(struct ignore_files *self) { PyThread_acquire_lock(self->turn, WAIT_LOCK); }
-
-/* Begins a turn for a short call with the interpreter's lock, which it releases while another thread has its turn. */
-static void begin_turn(struct ignore_files *self) {
-    if (PyThread_acquire_lock(self->turn, NOWAIT_LOCK)) return;
-    Py_BEGIN_ALLOW_THREADS
-    wait_for_turn(self);
-    Py_END_ALLOW_THREADS
+/* Begins a turn for a call that takes long, and releases the interpreter's lock. */
+static PyThreadState *begin_long_turn(struct ignore_files *self) {
+    PyThreadState *released = PyEval_SaveThread();
+    PyThread_acquire_lock(self->turn, WAIT_LOCK);
+    return released;
 }
 
-static void end_turn(struct ignore_files *self) { PyThread_release_lock(self->turn); }
+/* Begins a turn for a short call, and releases the interpreter's lock if another thread has its turn. */
+static PyThreadState *begin_turn(struct ignore_files *self) {
+    return PyThread_acquire_lock(self->turn, NOWAIT_LOCK) ? NULL : begin_long_turn(self);
+}
+
+/* Ends a turn, and only then takes the interpreter's lock if it was released: at the interpreter's end a thread may never get it,
+ * and the others would wait for the turn. */
+static void end_turn(struct ignore_files *self, PyThreadState *released) {
+    PyThread_release_lock(self->turn);
+    if (released) PyEval_RestoreThread(released);
+}
 
 static PyObject *none_if_done(globset_status status) {
     return status == GLOBSET_DONE ? Py_NewRef(Py_None) : raise_status(status);
@@ -56,12 +61,9 @@ static PyObject *ignore_add_file(PyObject *object, PyObject *file) {
     char *at;
     Py_ssize_t length;
     if (PyBytes_AsStringAndSize(file, &at, &length) < 0) return NULL;
-    globset_status status;
-    Py_BEGIN_ALLOW_THREADS
-    wait_for_turn(self);
-    status = globset_raw_ignore_add_file(&self->ignore, (const uint8_t *)at, (size_t)length);
-    end_turn(self);
-    Py_END_ALLOW_THREADS
+    PyThreadState *released = begin_long_turn(self);
+    globset_status status = globset_raw_ignore_add_file(&self->ignore, (const uint8_t *)at, (size_t)length);
+    end_turn(self, released);
     return none_if_done(status);
 }
 
@@ -84,9 +86,9 @@ static PyObject *ignore_enter(PyObject *object, PyObject *name) {
     int is_directory = 1;
     struct path path;
     if (read_entry(name, &is_directory, &path) < 0) return NULL;
-    begin_turn(self);
+    PyThreadState *released = begin_turn(self);
     globset_status status = globset_raw_ignore_enter(&self->ignore, path.at, path.length);
-    end_turn(self);
+    end_turn(self, released);
     Py_DECREF(path.holder);
     return none_if_done(status);
 }
@@ -94,9 +96,9 @@ static PyObject *ignore_enter(PyObject *object, PyObject *name) {
 static PyObject *ignore_leave(PyObject *object, PyObject *unused) {
     struct ignore_files *self = (struct ignore_files *)object;
     (void)unused;
-    begin_turn(self);
+    PyThreadState *released = begin_turn(self);
     globset_status status = globset_raw_ignore_leave(&self->ignore);
-    end_turn(self);
+    end_turn(self, released);
     return none_if_done(status);
 }
 
@@ -115,10 +117,10 @@ static PyObject *ignore_decide(PyObject *object, PyObject *arguments) {
     if (!PyArg_ParseTuple(arguments, "OiI:decide", &asked, &is_directory, &by)) return NULL;
     if (read_entry(asked, &is_directory, &path) < 0) return NULL;
     size_t file = 0, line = 0;
-    begin_turn(self);
+    PyThreadState *released = begin_turn(self);
     globset_status status =
         globset_raw_ignore_decide(&self->ignore, path.at, path.length, is_directory == 1, by, &file, &line);
-    end_turn(self);
+    end_turn(self, released);
     Py_DECREF(path.holder);
     if (status != GLOBSET_YES && status != GLOBSET_NO) return raise_status(status);
     return rule_of(status == GLOBSET_YES, file, line);
@@ -252,12 +254,9 @@ static PyObject *ask_ignore_many(PyObject *object, PyObject *arguments, const st
     struct many many;
     if (!PyArg_ParseTuple(arguments, question->format, &paths, &by)) return NULL;
     if (read_many(paths, question->size, &many) == 0) {
-        globset_status status;
-        Py_BEGIN_ALLOW_THREADS
-        wait_for_turn(self);
-        status = question->tell(self, &many, by);
-        end_turn(self);
-        Py_END_ALLOW_THREADS
+        PyThreadState *released = begin_long_turn(self);
+        globset_status status = question->tell(self, &many, by);
+        end_turn(self, released);
         result = status == GLOBSET_DONE ? question->list(&many) : raise_status(status);
     }
     free_many(&many);
@@ -286,11 +285,11 @@ static PyObject *ignore_unread_lines(PyObject *object, PyObject *number) {
     size_t file = PyLong_AsSize_t(number);
     if (PyErr_Occurred()) return NULL;
     globset_indexes lines = {none, 0};
-    begin_turn(self);
+    PyThreadState *released = begin_turn(self);
     globset_status status = globset_raw_ignore_unread_lines(&self->ignore, file, &lines);
     size_t *copied = malloc((lines.count + 1) * sizeof *copied);
     if (copied) memcpy(copied, lines.at, lines.count * sizeof *copied);
-    end_turn(self);
+    end_turn(self, released);
     PyObject *list = NULL;
     if (status != GLOBSET_DONE) {
         raise_status(status);
@@ -308,11 +307,11 @@ static PyObject *ignore_line_text(PyObject *object, PyObject *arguments) {
     Py_ssize_t file, line;
     if (!PyArg_ParseTuple(arguments, "nn:line_text", &file, &line)) return NULL;
     globset_bytes text = {none, 0};
-    begin_turn(self);
+    PyThreadState *released = begin_turn(self);
     globset_status status = globset_raw_ignore_line_text(&self->ignore, (size_t)file, (size_t)line, &text);
     char *copied = malloc(text.count + 1);
     if (copied) memcpy(copied, text.at, text.count);
-    end_turn(self);
+    end_turn(self, released);
     PyObject *bytes = NULL;
     if (status != GLOBSET_DONE) {
         raise_status(status);
@@ -343,12 +342,9 @@ static PyObject *ignore_unreachable(PyObject *object, PyObject *arguments) {
     unsigned int domain;
     if (!PyArg_ParseTuple(arguments, "nIn:unreachable", &file, &domain, &limit)) return NULL;
     globset_owned answers;
-    globset_status status;
-    Py_BEGIN_ALLOW_THREADS
-    wait_for_turn(self);
-    status = globset_raw_ignore_unreachable(&self->ignore, (size_t)file, domain, (size_t)limit, &answers);
-    end_turn(self);
-    Py_END_ALLOW_THREADS
+    PyThreadState *released = begin_long_turn(self);
+    globset_status status = globset_raw_ignore_unreachable(&self->ignore, (size_t)file, domain, (size_t)limit, &answers);
+    end_turn(self, released);
     if (status != GLOBSET_DONE) return raise_status(status);
     PyObject *told = told_of_rules(&answers);
     globset_raw_free(answers);

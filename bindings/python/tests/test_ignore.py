@@ -376,14 +376,14 @@ class Late:
 # It is of another module, since a thread that runs keeps the names of its function's module.
 other = {}
 exec('''
-def ask(rules, paths):
+def ask(call, asked):
     while True:
-        rules.decide_many(paths)
+        call(asked)
 ''', other)
 rules, paths = IgnoreRules(["*a*[xy]*c"]), [b"ab" * 1000 + b"c"] * 1000
 late = Late(rules)
-for _ in range(3):
-    threading.Thread(target=other["ask"], args=(rules, paths), daemon=True).start()
+for asked in [(rules.decide_many, paths), (rules.decide_many, paths), (rules.decide, "a"), (rules.decide, "a")]:
+    threading.Thread(target=other["ask"], args=asked, daemon=True).start()
 time.sleep(0.2)
 """
         )
