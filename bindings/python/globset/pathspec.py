@@ -327,7 +327,7 @@ def _include_of(line: bytes) -> Optional[bool]:
     # A space that a `\` escapes stays. Without it the text has a pattern, too.
     text = (text[:-1] if text.endswith(b"\r") else text).partition(b"\0")[0].rstrip(b" ")
     is_negated = text.startswith(b"!")
-    if text.startswith(b"#") or text[is_negated:] in (b"", b"/"):
+    if text.startswith(b"#") or text[is_negated:] in (b"", b"/", b"//"):
         return None
     return not is_negated
 

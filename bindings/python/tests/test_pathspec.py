@@ -80,6 +80,7 @@ class Specs(unittest.TestCase):
             ("a", True), ("!a", False), ("# a", None), ("", None), ("\n", None), ("  ", None), ("/", None), ("!", None),
             ("!/", None), ("\\ ", True), ("\\!a", True), ("a\0b", True), ("\0", None), ("\r\n", None), (b"!a", False),
             ("\ufeff!a", False), ("\ufeff# a", None), ("\ufeff", None), ("!\\ ", False), ("a" + " " * 2**20, True),
+            ("//", None), ("!//", None), ("///", True),
         ]:  # fmt: skip
             with self.subTest(line=line):
                 self.assertIs(GitIgnorePattern(line).include, include)
