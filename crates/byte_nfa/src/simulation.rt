@@ -98,7 +98,7 @@ impl Simulation {
     }
 
     /// Returns the states of the automaton that is run from which some bytes lead to an end.
-    pub fn live(&self) -> &StateSet
+    pub fn live_states(&self) -> &StateSet
         ensures live { AreLive self.now.run result.now }
         ensures room { size self.now.run ≤ state_capacity result.now }
     {

@@ -50,12 +50,8 @@ impl Cache {
         if !simulation.may_have_rows() {
             return Err(AllocError);
         }
-        let rows = Rows::new(
-            alloc,
-            simulation.automaton(),
-            simulation.indexes().len(),
-            bytes,
-        )?;
+        let indexes = simulation.indexes().len();
+        let rows = Rows::new(alloc, simulation.automaton(), indexes, bytes)?;
         Ok(Cache {
             simulation: Arc::try_clone(simulation)?,
             rows: Box::new(alloc, rows)?,
@@ -69,12 +65,8 @@ impl Cache {
         ensures { IfOk result (λ cache. cache ≡ other.now) }
     {
         let simulation = &other.simulation;
-        let mut rows = Rows::new(
-            alloc,
-            simulation.automaton(),
-            simulation.indexes().len(),
-            bytes,
-        )?;
+        let indexes = simulation.indexes().len();
+        let mut rows = Rows::new(alloc, simulation.automaton(), indexes, bytes)?;
         rows.take_over(&other.rows);
         Ok(Cache {
             simulation: Arc::try_clone(simulation)?,
@@ -140,15 +132,9 @@ impl Cache {
         let Some(place) = self.rows.begin else {
             return false;
         };
+        let indexes = self.simulation.indexes();
         self.rows
-            .find_from(
-                automaton,
-                place,
-                self.simulation.indexes(),
-                text,
-                found,
-                visits,
-            )
+            .find_from(automaton, place, indexes, text, found, visits)
             .is_none()
     }
 
@@ -187,8 +173,9 @@ impl Cache {
         ensures counted { visits.old ≤ visits.new }
     {
         let automaton = self.simulation.automaton();
+        let live = self.simulation.live_states();
         self.rows
-            .can_match_after(automaton, self.simulation.live(), text, byte, visits)
+            .can_match_after(automaton, live, text, byte, visits)
     }
 
     /// The same as [`Cache::can_match_after`] by entries that are there. Returns `None` if one that it needs is not. It is at
@@ -201,7 +188,8 @@ impl Cache {
         ensures counted { visits.old ≤ visits.new }
     {
         let automaton = self.simulation.automaton();
+        let live = self.simulation.live_states();
         self.rows
-            .can_match_after_known(automaton, self.simulation.live(), text, byte, visits)
+            .can_match_after_known(automaton, live, text, byte, visits)
     }
 }
