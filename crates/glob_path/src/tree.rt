@@ -93,7 +93,7 @@ impl Tree {
         }
     }
 
-    /// Returns a tree of texts, which are in order.
+    /// Returns a tree of texts, which are in order. Its memory has no room for more.
     pub fn build(alloc: Global, texts: &[Text]) -> Result<Tree, AllocError>
         requires { IsOrdered texts.now 0 0 (length texts.now) }
         ensures tree { IfOk result IsTree }
@@ -101,10 +101,13 @@ impl Tree {
             (λ t. (w : List ℕ) → under t 0 w ≡ indexes_under (map entry_of texts.now) w) }
     {
         let longest = longest(texts);
+        // The tree of a single text has so many nodes and edges.
+        let nodes = Vec::with_capacity(alloc, longest + 1)?;
+        let bytes = Vec::with_capacity(alloc, longest)?;
         let indexes = indexes_of(alloc, texts)?;
         let mut tree = Tree {
-            nodes: Vec::new(alloc),
-            bytes: Vec::new(alloc),
+            nodes,
+            bytes,
             indexes,
         };
         let mut level = Vec::new(alloc);
@@ -117,6 +120,8 @@ impl Tree {
             tree.push_level(texts, depth, &level, &mut next)?;
             mem::swap(&mut level, &mut next);
         }
+        tree.nodes.shrink_to_fit();
+        tree.bytes.shrink_to_fit();
         Ok(tree)
     }
 

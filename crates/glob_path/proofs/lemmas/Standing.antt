@@ -216,7 +216,26 @@ tree_stands texts t h =
       λ w. under_stood t g h.sound n w 0 (omega (arith, h.sound.total, n)) ∙ ap (λ l. indexes_under l w) h.root,
     )
 
+-- nothing but the items of a tree counts
+same_stands : (texts : List Text) (t u : Tree) (pending : List (List Entry)) → u.nodes.items ≡ t.nodes.items → u.bytes.items ≡ t.bytes.items → u.indexes.items ≡ t.indexes.items
+    → Stands texts t pending → Stands texts u pending
+same_stands texts t u pending nodes bytes indexes h = record {
+  done = h.done;
+  counted = h.counted ∙ ap length (sym nodes);
+  indexes = indexes ∙ h.indexes;
+  root = h.root;
+  sound = subst (λ ns. IsSound ns u.bytes.items u.indexes.items (h.done ++ pending)) (sym nodes)
+      (subst (λ bs. IsSound t.nodes.items bs u.indexes.items (h.done ++ pending)) (sym bytes)
+      (subst (λ is. IsSound t.nodes.items t.bytes.items is (h.done ++ pending)) (sym indexes) h.sound));
+}
+
 -- past the longest text no span is left
 pub none_left : (texts : List Text) (longest d : ℕ) (ss : List Span) → AreWithin longest texts → longest < d → AreSpans texts d ss → ss ≡ []
 none_left texts longest d [] w l h = refl
 none_left texts longest d (s ∷ ss) w l h = absurd (omega (arith, h.0.deep longest w))
+
+-- so the tree is finished, in whatever memory its items are
+pub finished : (texts : List Text) (longest d : ℕ) (level : List Span) (t u : Tree) → AreWithin longest texts → longest < d → AreSpans texts d level → Stands texts t (map (rests_of texts d) level)
+    → u.nodes.items ≡ t.nodes.items → u.bytes.items ≡ t.bytes.items → u.indexes.items ≡ t.indexes.items → IsTree u × ((w : List ℕ) → under u 0 w ≡ indexes_under (map entry_of texts) w)
+finished texts longest d level t u within past spans stands nodes bytes indexes =
+    tree_stands texts u (same_stands texts t u [] nodes bytes indexes (subst (λ ss. Stands texts t (map (rests_of texts d) ss)) (none_left texts longest d level within past spans) stands))
