@@ -1,9 +1,9 @@
 //! Builders of tables.
 
-ghost use Rattle.std.specs.Prelude.{◌≡◌, ◌↔◌, IsTrue, List, ◌++◌, ◌∷◌, [], OnOk, OnErr, IfOk, length};
+ghost use Rattle.std.specs.Prelude.{◌≡◌, ◌<◌, ◌↔◌, IsTrue, List, ◌++◌, ◌∷◌, [], OnOk, OnErr, IfOk, length};
 ghost use Rattle.glob_path.specs.Entries.{entry, Entry};
 ghost use Rattle.std.specs.List.{All};
-ghost use Rattle.glob_path.specs.inner.Pairs.{entries_of, IsKept};
+ghost use Rattle.glob_path.specs.inner.Pairs.{entries_of, key_at, IsKept};
 ghost use Rattle.glob_path.specs.inner.Tables.{AreContents};
 
 use crate::pairs::{Pair, hash, indexes_of, sort};
@@ -54,6 +54,21 @@ impl TableBuilder {
         ensures { IsTrue result ↔ (self.now ≡ []) }
     {
         self.pairs.is_empty()
+    }
+
+    /// Returns the number of entries.
+    pub fn len(&self) -> usize
+        ensures { result ≡ length self.now }
+    {
+        self.pairs.len()
+    }
+
+    /// Returns the key of an entry, by the order of the additions.
+    pub fn key(&self, at: usize) -> &[u8]
+        requires { at < length self.now }
+        ensures { result.now ≡ key_at self.now at }
+    {
+        self.pairs[at].key(&self.bytes)
     }
 
     /// Adds an index under a key, after those that it has.

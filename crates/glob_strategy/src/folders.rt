@@ -3,10 +3,10 @@
 ghost use Rattle.std.specs.Prelude.{◌≡◌, ◌+◌, ◌⊎◌, ◌↔◌, [], map, Contains, IsTrue, IfOk, OnOk, ℕ, List};
 ghost use Rattle.glob_path.specs.Texts.{entry_of};
 ghost use Rattle.glob_path.specs.Below.{folder_start};
-ghost use Rattle.glob_strategy.specs.inner.Folders.{AddsFolders, AreFolders, AreRising, SomeBelow, bytes_of, place_of, shown_of, start_of};
+ghost use Rattle.glob_strategy.specs.inner.Folders.{AddsFolder, AreFolders, AreRising, SomeBelow, bytes_of, place_of, shown_of, start_of};
 
 use bit_sets::Visits;
-use glob_path::{PathParts, Text};
+use glob_path::{PathParts, TableBuilder, Text};
 use std::alloc::{AllocError, Global};
 use std::cmp::Ordering;
 use std::marker::Model;
@@ -31,13 +31,21 @@ impl Folders {
     ///
     /// The time is linear in the bytes of all keys, except that their folders are sorted. A copy is kept of each folder that
     /// differs from the others; until then, two words are taken for each key whose folder differs from that of the key before.
-    pub fn new(alloc: Global, paths: &[Text], prefixes: &[Text]) -> Result<Folders, AllocError>
+    pub fn new(
+        alloc: Global,
+        paths: &TableBuilder,
+        prefixes: &[Text],
+    ) -> Result<Folders, AllocError>
         ensures { IfOk result
-            (λ folders. AreFolders folders (map entry_of paths.now) (map entry_of prefixes.now)) }
+            (λ folders. AreFolders folders paths.now (map entry_of prefixes.now)) }
     {
         let mut starts = Vec::new(alloc);
-        push_starts(&mut starts, paths)?;
-        push_starts(&mut starts, prefixes)?;
+        for at in 0..paths.len() {
+            push_start(&mut starts, paths.key(at))?;
+        }
+        for text in prefixes {
+            push_start(&mut starts, &text.bytes)?;
+        }
         starts.sort_unstable();
         starts.dedup();
         Ok(Folders {
@@ -60,17 +68,14 @@ impl Folders {
     }
 }
 
-/// Adds the folders of keys.
-fn push_starts<'k>(starts: &mut Vec<&'k [u8]>, keys: &'k [Text]) -> Result<(), AllocError>
+/// Adds the folder of a key.
+fn push_start<'k>(starts: &mut Vec<&'k [u8]>, key: &'k [u8]) -> Result<(), AllocError>
     ensures { OnOk result
-        (AddsFolders (shown_of starts.old.items) (shown_of starts.new.items)
-        (map entry_of keys.now)) }
+        (AddsFolder (shown_of starts.old.items) (shown_of starts.new.items) key.now) }
 {
-    for key in keys {
-        let start = start_of(&key.bytes);
-        if !is_known(starts, start) {
-            starts.push(start)?;
-        }
+    let start = start_of(key);
+    if !is_known(starts, start) {
+        starts.push(start)?;
     }
     Ok(())
 }

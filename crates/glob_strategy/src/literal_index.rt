@@ -192,7 +192,7 @@ impl LiteralIndex {
 /// Makes [`LiteralIndex`].
 #[derive(Drop)]
 pub struct LiteralIndexBuilder {
-    paths: Vec<Text>,
+    paths: TableBuilder,
     components: TableBuilder,
     extensions: TableBuilder,
     prefixes: Vec<Text>,
@@ -203,7 +203,7 @@ impl Model for LiteralIndexBuilder {
     ghost Value = { KeyParts };
 
     ghost view = { λ k. record {
-      paths = map entry_of k.paths.items;
+      paths = k.paths;
       components = k.components;
       extensions = k.extensions;
       prefixes = map entry_of k.prefixes.items;
@@ -219,7 +219,7 @@ impl LiteralIndexBuilder {
         ensures below { (folder : List ℕ) → MatchesBelow result folder → ⊥ }
     {
         LiteralIndexBuilder {
-            paths: Vec::new(alloc),
+            paths: TableBuilder::new(alloc),
             components: TableBuilder::new(alloc),
             extensions: TableBuilder::new(alloc),
             prefixes: Vec::new(alloc),
@@ -253,7 +253,7 @@ impl LiteralIndexBuilder {
             ends,
         } = self;
         Ok(LiteralIndex {
-            paths: table_of(alloc, paths)?,
+            paths: paths.build()?,
             components: components.build()?,
             extensions: extensions.build()?,
             prefixes: Trie::new(alloc, Anchor::Start, prefixes)?,
@@ -280,8 +280,7 @@ impl LiteralIndexBuilder {
     fn put_path(&mut self, bytes: Vec<u8>, index: usize) -> Result<(), AllocError>
         ensures { OnOk result (self.new ≡ with_path self.old bytes.items index) }
     {
-        self.paths.push(Text { bytes, index })?;
-        Ok(())
+        self.paths.insert_owned(bytes, index)
     }
 
     /// Puts an index under the beginning of paths.
@@ -339,16 +338,4 @@ impl LiteralIndexBuilder {
             Err(error) => Err(error),
         }
     }
-}
-
-/// Returns a table of texts.
-fn table_of(alloc: Global, texts: Vec<Text>) -> Result<Table, AllocError>
-    ensures { IfOk result (λ table. table ≡ map entry_of texts.items) }
-{
-    let mut table = TableBuilder::with_capacity(alloc, texts.len())?;
-    for text in texts {
-        let Text { bytes, index } = text;
-        table.insert_owned(bytes, index)?;
-    }
-    table.build()
 }

@@ -1,5 +1,5 @@
 -- Keys as parts of a list of bytes, and the entries of pairs of such a key and an index.
-use Rattle.std.specs.Prelude.{ℕ, ◌≡◌, ◌≤◌, ◌/◌, ◌^◌, Bool, List, length, map, slice_range}
+use Rattle.std.specs.Prelude.{ℕ, ◌≡◌, ◌≤◌, ◌/◌, ◌^◌, Bool, List, [], length, map, slice_index_or, slice_range}
 use Rattle.std.specs.declared.cmp.Ordering.{Ordering}
 use Rattle.std.specs.Cmp.Lexicographic.{slice_cmp}
 use Rattle.std.specs.Hash.FoldHasher as folding
@@ -17,6 +17,10 @@ pair_entry bytes p = entry (pair_key bytes p) p.index
 -- the entries that pairs stand for
 abbrev pub entries_of : List ℕ → List Pair → List Entry
 entries_of bytes ps = map (pair_entry bytes) ps
+
+-- the key of an entry, by its position
+abbrev pub key_at : List Entry → ℕ → List ℕ
+key_at entries at = (slice_index_or entries at (entry [] 0)).key
 
 -- the upper half of a key's hash
 unfoldable pub hash_of : List ℕ → ℕ

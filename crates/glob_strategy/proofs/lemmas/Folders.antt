@@ -15,18 +15,19 @@ use Rattle.std.proofs.Math.Seq.{take-suc}
 use Rattle.std.proofs.lemmas.Bool.{cases_lt}
 use Rattle.std.proofs.lemmas.Cmp.{ranked}
 use Rattle.std.proofs.lemmas.Option.{get_or_from_slice_get, slice_get_within}
-use Rattle.std.proofs.lemmas.List.{length-append, length-map, get_or-map, take-append-drop}
+use Rattle.std.proofs.lemmas.List.{length-append, length-map, get_or-map, map-append, take-append-drop}
 use Rattle.std.proofs.lemmas.List.Elements.{Contains-append_cases, Contains-append_left, Contains-append_right}
 use Rattle.std.proofs.lemmas.List.Sorted.{Contains-permutation, IsPermutation-map, IsPermutation-sym}
 use Rattle.std.proofs.lemmas.List.Kept.{Contains-dedup, Contains-from_dedup, IsStrictlySortedBy-dedup}
 use denote.Ref.{Bor}
-use Rattle.glob_path.specs.Entries.{Entry}
+use Rattle.glob_path.specs.Entries.{Entry, entry}
+use Rattle.glob_path.specs.inner.Pairs.{key_at}
 use Rattle.glob_path.specs.declared.trie.Text.{Text}
 use Rattle.glob_path.specs.Texts.{entry_of}
 use Rattle.glob_path.specs.Below.{BeginsWith, folder_start}
 use Rattle.glob_path.specs.PathParts.{after_position, is_separator, last_component, last_position, with_first}
 use Rattle.glob_strategy.specs.KeysBelow.{HasKey}
-use Rattle.glob_strategy.specs.inner.Folders.{AddsFolders, AreFolders, AreRising, IsBelow, SomeBelow, bytes_of, place_of, shown_of, start_of}
+use Rattle.glob_strategy.specs.inner.Folders.{AddsFolder, AreFolders, AreRising, HaveFolders, IsBelow, SomeBelow, bytes_of, place_of, shown_of, start_of}
 
 -- ---- keys below a folder
 
@@ -217,50 +218,22 @@ kept_same starts sorted kept moved is t = (
 
 -- ---- texts below a folder
 
-some_cons : (x : List ℕ) (xs : List (List ℕ)) (f : List ℕ) → SomeBelow (x ∷ xs) f ↔ (IsBelow f x ⊎ SomeBelow xs f)
-some_cons x xs f = (to, from)
-  where
-    to : SomeBelow (x ∷ xs) f → IsBelow f x ⊎ SomeBelow xs f
-    to (t, (zero, lt, is), below) = inl (subst (IsBelow f) (sym is) below)
-    to (t, (suc k, lt, is), below) = inr (t, (k, omega (arith, lt), is), below)
-
-    from : IsBelow f x ⊎ SomeBelow xs f → SomeBelow (x ∷ xs) f
-    from (inl below) = (x, (0, omega arith, refl), below)
-    from (inr (t, (k, lt, is), below)) = (t, (suc k, omega (arith, lt), is), below)
-
-key_cons : (P : List ℕ → Type 0) (e : Entry) (es : List Entry) → HasKey P (e ∷ es) ↔ (P e.key ⊎ HasKey P es)
-key_cons P e es = (to, from)
-  where
-    to : HasKey P (e ∷ es) → P e.key ⊎ HasKey P es
-    to (key, i, (zero, lt, is), p) = inl (subst P (sym (ap (λ (e : Entry). e.key) is)) p)
-    to (key, i, (suc k, lt, is), p) = inr (key, i, (k, omega (arith, lt), is), p)
-
-    from : P e.key ⊎ HasKey P es → HasKey P (e ∷ es)
-    from (inl p) = (e.key, e.index, (0, omega arith, refl), p)
-    from (inr (key, i, (k, lt, is), p)) = (key, i, (suc k, omega (arith, lt), is), p)
-
-key_snoc : (P : List ℕ → Type 0) (ts : List Text) (t : Text) → HasKey P (map entry_of (ts ++ t ∷ [])) ↔ (HasKey P (map entry_of ts) ⊎ P t.bytes.items)
-key_snoc P [] t = (
-  λ h. ⊎_elim {C = HasKey P [] ⊎ P t.bytes.items} (λ p. inr p) (λ more. inl more) ((key_cons P (entry_of t) []).0 h),
-  λ h. (key_cons P (entry_of t) []).1 (⊎_elim {C = P t.bytes.items ⊎ HasKey P []} (λ none. inr none) (λ p. inl p) h),
+key_append : (P : List ℕ → Type 0) (xs ys : List Entry) → HasKey P (xs ++ ys) ↔ (HasKey P xs ⊎ HasKey P ys)
+key_append P xs ys = (
+  λ h. ⊎_elim {C = HasKey P xs ⊎ HasKey P ys} (λ front. inl (h.0, h.1, front, h.3)) (λ back. inr (h.0, h.1, back, h.3)) (Contains-append_cases xs ys (entry h.0 h.1) h.2),
+  λ h. ⊎_elim {C = HasKey P (xs ++ ys)} (λ front. (front.0, front.1, Contains-append_left xs ys (entry front.0 front.1) front.2, front.3))
+      (λ back. (back.0, back.1, Contains-append_right xs ys (entry back.0 back.1) back.2, back.3)) h,
 )
-key_snoc P (x ∷ xs) t = (to (key_snoc P xs t), from (key_snoc P xs t))
+
+no_key : (P : List ℕ → Type 0) → HasKey P [] → ⊥
+no_key P h = omega (arith, h.2.1)
+
+one_key : (P : List ℕ → Type 0) (e : Entry) → HasKey P (e ∷ []) ↔ P e.key
+one_key P e = (to, λ p. (e.key, e.index, (0, omega arith, refl), p))
   where
-    later : List Entry
-    later = map entry_of xs
-
-    all : List Entry
-    all = map entry_of (xs ++ t ∷ [])
-
-    to : (HasKey P all ↔ (HasKey P later ⊎ P t.bytes.items)) → HasKey P (entry_of x ∷ all) → HasKey P (entry_of x ∷ later) ⊎ P t.bytes.items
-    to rest h = ⊎_elim {C = HasKey P (entry_of x ∷ later) ⊎ P t.bytes.items} (λ first. inl ((key_cons P (entry_of x) later).1 (inl first)))
-        (λ more. ⊎_elim {C = HasKey P (entry_of x ∷ later) ⊎ P t.bytes.items} (λ some. inl ((key_cons P (entry_of x) later).1 (inr some))) (λ p. inr p) (rest.0 more))
-        ((key_cons P (entry_of x) all).0 h)
-
-    from : (HasKey P all ↔ (HasKey P later ⊎ P t.bytes.items)) → HasKey P (entry_of x ∷ later) ⊎ P t.bytes.items → HasKey P (entry_of x ∷ all)
-    from rest (inl some) = (key_cons P (entry_of x) all).1
-        (⊎_elim {C = P x.bytes.items ⊎ HasKey P all} (λ first. inl first) (λ more. inr (rest.1 (inl more))) ((key_cons P (entry_of x) later).0 some))
-    from rest (inr p) = (key_cons P (entry_of x) all).1 (inr (rest.1 (inr p)))
+    to : HasKey P (e ∷ []) → P e.key
+    to (key, i, (zero, lt, is), p) = subst P (sym (ap (λ (e : Entry). e.key) is)) p
+    to (key, i, (suc k, lt, is), p) = absurd (omega (arith, lt))
 
 some_append : (xs ys : List (List ℕ)) (f : List ℕ) → SomeBelow (xs ++ ys) f ↔ (SomeBelow xs f ⊎ SomeBelow ys f)
 some_append xs ys f = (
@@ -268,78 +241,66 @@ some_append xs ys f = (
   λ h. ⊎_elim {C = SomeBelow (xs ++ ys) f} (λ front. (front.0, Contains-append_left xs ys front.0 front.1, front.2)) (λ back. (back.0, Contains-append_right xs ys back.0 back.1, back.2)) h,
 )
 
-no_text : (f : List ℕ) → SomeBelow [] f → ⊥
-no_text f h = omega (arith, h.1.1)
-
--- ---- folders that are added
-
--- no folder is above the empty text
-not_above : (f : List ℕ) → IsBelow f [] → ⊥
-not_above f h = omega (arith, shorter f [] h)
-
--- the start of a key is added
-adds_start : (old texts : List (List ℕ)) (ts : List Text) (t : Text) → AddsFolders old texts (map entry_of ts) → AddsFolders old (texts ++ start_of t.bytes.items ∷ []) (map entry_of (ts ++ t ∷ []))
-adds_start old texts ts t adds f = (to, from)
-  where
-    start : List ℕ
-    start = start_of t.bytes.items
-
-    Key : List Entry → Type 0
-    Key keys = HasKey (IsBelow f) keys
-
-    to : SomeBelow (texts ++ start ∷ []) f → SomeBelow old f ⊎ Key (map entry_of (ts ++ t ∷ []))
-    to h = ⊎_elim {C = SomeBelow old f ⊎ Key (map entry_of (ts ++ t ∷ []))}
-        (λ front. ⊎_elim {C = SomeBelow old f ⊎ Key (map entry_of (ts ++ t ∷ []))} (λ o. inl o) (λ k. inr ((key_snoc (IsBelow f) ts t).1 (inl k))) ((adds f).0 front))
-        (λ back. ⊎_elim {C = SomeBelow old f ⊎ Key (map entry_of (ts ++ t ∷ []))} (λ here. inr ((key_snoc (IsBelow f) ts t).1 (inr ((start_tells f t.bytes.items).0 here)))) (λ none. absurd (no_text f none))
-        ((some_cons start [] f).0 back))
-        ((some_append texts (start ∷ []) f).0 h)
-
-    from : SomeBelow old f ⊎ Key (map entry_of (ts ++ t ∷ [])) → SomeBelow (texts ++ start ∷ []) f
-    from (inl o) = (some_append texts (start ∷ []) f).1 (inl ((adds f).1 (inl o)))
-    from (inr k) = (some_append texts (start ∷ []) f).1 (⊎_elim {C = SomeBelow texts f ⊎ SomeBelow (start ∷ []) f} (λ more. inl ((adds f).1 (inr more)))
-        (λ here. inr ((some_cons start [] f).1 (inl ((start_tells f t.bytes.items).1 here)))) ((key_snoc (IsBelow f) ts t).0 k))
-
--- the start of a key is empty, or is one of the texts
-adds_known : (old texts : List (List ℕ)) (ts : List Text) (t : Text) → (start_of t.bytes.items ≡ []) ⊎ Contains texts (start_of t.bytes.items)
-    → AddsFolders old texts (map entry_of ts) → AddsFolders old texts (map entry_of (ts ++ t ∷ []))
-adds_known old texts ts t known adds f = (to, from)
-  where
-    start : List ℕ
-    start = start_of t.bytes.items
-
-    Key : List Entry → Type 0
-    Key keys = HasKey (IsBelow f) keys
-
-    to : SomeBelow texts f → SomeBelow old f ⊎ Key (map entry_of (ts ++ t ∷ []))
-    to h = ⊎_elim {C = SomeBelow old f ⊎ Key (map entry_of (ts ++ t ∷ []))} (λ o. inl o) (λ k. inr ((key_snoc (IsBelow f) ts t).1 (inl k))) ((adds f).0 h)
-
-    here : IsBelow f start → SomeBelow texts f
-    here below = ⊎_elim {C = SomeBelow texts f} (λ empty. absurd (not_above f (subst (IsBelow f) empty below))) (λ has. (start, has, below)) known
-
-    from : SomeBelow old f ⊎ Key (map entry_of (ts ++ t ∷ [])) → SomeBelow texts f
-    from (inl o) = (adds f).1 (inl o)
-    from (inr k) = ⊎_elim {C = SomeBelow texts f} (λ more. (adds f).1 (inr more)) (λ below. here ((start_tells f t.bytes.items).1 below)) ((key_snoc (IsBelow f) ts t).0 k)
-
-next_key : (keys : List Text) (k : ℕ) (t : Text) → k < length keys → get_or keys k t ≡ t → take (k + 1) keys ≡ take k keys ++ t ∷ []
-next_key keys k t lt is = let next : k + 1 ≡ suc k = omega arith in ap (λ n. take n keys) next ∙ take-suc keys k t lt ∙ ap (λ x. take k keys ++ x ∷ []) is
+-- ---- a folder that is added
 
 shown_push : (starts : List (Bor (List ℕ))) (b : Bor (List ℕ)) → shown_of (starts ++ b ∷ []) ≡ shown_of starts ++ b.now ∷ []
 shown_push [] b = refl
 shown_push (x ∷ xs) b = ap (λ l. x.now ∷ l) (shown_push xs b)
 
--- one more key of a list, and the starts with its start or without it
-pub next_start : (old : List (List ℕ)) (starts new : List (Bor (List ℕ))) (keys : List Text) (k : ℕ) (t : Text) (start : Bor (List ℕ)) → k < length keys → get_or keys k t ≡ t
-    → start.now ≡ start_of t.bytes.items → new ≡ starts ++ start ∷ [] → AddsFolders old (shown_of starts) (map entry_of (take k keys)) → AddsFolders old (shown_of new) (map entry_of (take (k + 1) keys))
-next_start old starts new keys k t start lt is of_key grown adds =
-    subst (λ all. AddsFolders old (shown_of new) (map entry_of all)) (sym (next_key keys k t lt is))
-    (subst (λ texts. AddsFolders old texts (map entry_of (take k keys ++ t ∷ []))) (sym (ap shown_of grown ∙ shown_push starts start ∙ ap (λ x. shown_of starts ++ x ∷ []) of_key))
-    (adds_start old (shown_of starts) (take k keys) t adds))
+-- the start of a key is added
+pub adds_start : (starts new : List (Bor (List ℕ))) (start : Bor (List ℕ)) (key : List ℕ) → start.now ≡ start_of key → new ≡ starts ++ start ∷ [] → AddsFolder (shown_of starts) (shown_of new) key
+adds_start starts new start key of_key grown f = (
+  λ h. ⊎_elim {C = SomeBelow (shown_of starts) f ⊎ IsBelow f key} (λ front. inl front) (λ back. inr ((start_tells f key).0 (subst (IsBelow f) of_key (one back))))
+      ((some_append (shown_of starts) (start.now ∷ []) f).0 (subst (λ l. SomeBelow l f) is h)),
+  λ h. subst (λ l. SomeBelow l f) (sym is) ((some_append (shown_of starts) (start.now ∷ []) f).1
+      (⊎_elim {C = SomeBelow (shown_of starts) f ⊎ SomeBelow (start.now ∷ []) f} (λ front. inl front)
+      (λ below. inr (start.now, (0, omega arith, refl), subst (IsBelow f) (sym of_key) ((start_tells f key).1 below))) h)),
+)
+  where
+    is : shown_of new ≡ shown_of starts ++ start.now ∷ []
+    is = ap shown_of grown ∙ shown_push starts start
 
-pub next_known : (old : List (List ℕ)) (starts : List (Bor (List ℕ))) (keys : List Text) (k : ℕ) (t : Text) (start : List ℕ) → k < length keys → get_or keys k t ≡ t
-    → start ≡ start_of t.bytes.items → (start ≡ []) ⊎ Contains (shown_of starts) start → AddsFolders old (shown_of starts) (map entry_of (take k keys)) → AddsFolders old (shown_of starts) (map entry_of (take (k + 1) keys))
-next_known old starts keys k t start lt is of_key known adds =
-    subst (λ all. AddsFolders old (shown_of starts) (map entry_of all)) (sym (next_key keys k t lt is))
-    (adds_known old (shown_of starts) (take k keys) t (subst (λ x. (x ≡ []) ⊎ Contains (shown_of starts) x) of_key known) adds)
+    one : SomeBelow (start.now ∷ []) f → IsBelow f start.now
+    one (t, (zero, lt, same), below) = subst (IsBelow f) (sym same) below
+    one (t, (suc k, lt, same), below) = absurd (omega (arith, lt))
+
+-- the start of a key is empty, or is one of the texts
+pub adds_known : (texts : List (List ℕ)) (start key : List ℕ) → start ≡ start_of key → (start ≡ []) ⊎ Contains texts start → AddsFolder texts texts key
+adds_known texts start key of_key known f = (
+  λ h. inl h,
+  λ h. ⊎_elim {C = SomeBelow texts f} (λ some. some) (λ below. here (subst (IsBelow f) (sym of_key) ((start_tells f key).1 below))) h,
+)
+  where
+    -- no folder is above the empty text
+    here : IsBelow f start → SomeBelow texts f
+    here below = ⊎_elim {C = SomeBelow texts f} (λ empty. absurd (omega (arith, shorter f [] (subst (IsBelow f) empty below)))) (λ has. (start, has, below)) known
+
+-- ---- the folders of keys that were read
+
+pub none_read : (starts : List (Bor (List ℕ))) → starts ≡ [] → HaveFolders (shown_of starts) []
+none_read starts is f = (λ h. absurd (omega (arith, (subst (λ l. SomeBelow (shown_of l) f) is h).1.1)), λ h. absurd (no_key (IsBelow f) h))
+
+one_more : (texts new : List (List ℕ)) (keys : List Entry) (e : Entry) → AddsFolder texts new e.key → HaveFolders texts keys → HaveFolders new (keys ++ e ∷ [])
+one_more texts new keys e adds have f = (
+  λ h. (key_append (IsBelow f) keys (e ∷ [])).1 (⊎_elim {C = HasKey (IsBelow f) keys ⊎ HasKey (IsBelow f) (e ∷ [])} (λ some. inl ((have f).0 some)) (λ below. inr ((one_key (IsBelow f) e).1 below)) ((adds f).0 h)),
+  λ h. (adds f).1 (⊎_elim {C = SomeBelow texts f ⊎ IsBelow f e.key} (λ more. inl ((have f).1 more)) (λ one. inr ((one_key (IsBelow f) e).0 one)) ((key_append (IsBelow f) keys (e ∷ [])).0 h)),
+)
+
+pub next_path : (texts new : List (List ℕ)) (keys : List Entry) (k : ℕ) → k < length keys → AddsFolder texts new (key_at keys k) → HaveFolders texts (take k keys) → HaveFolders new (take (k + 1) keys)
+next_path texts new keys k lt adds have =
+    let next : k + 1 ≡ suc k = omega arith in
+    subst (λ l. HaveFolders new l) (sym (ap (λ n. take n keys) next ∙ take-suc keys k (entry [] 0) lt)) (one_more texts new (take k keys) (get_or keys k (entry [] 0)) adds have)
+
+map_next : (keys : List Text) (k : ℕ) (t : Text) → k < length keys → get_or keys k t ≡ t → map entry_of (take (k + 1) keys) ≡ map entry_of (take k keys) ++ entry_of t ∷ []
+map_next keys k t lt is =
+    let next : k + 1 ≡ suc k = omega arith in
+    ap (λ n. map entry_of (take n keys)) next ∙ ap (map entry_of) (take-suc keys k t lt ∙ ap (λ x. take k keys ++ x ∷ []) is) ∙ map-append entry_of (take k keys) (t ∷ [])
+
+pub next_text : (texts new : List (List ℕ)) (paths : List Entry) (keys : List Text) (k : ℕ) (t : Text) → k < length keys → get_or keys k t ≡ t → AddsFolder texts new t.bytes.items
+    → HaveFolders texts (paths ++ map entry_of (take k keys)) → HaveFolders new (paths ++ map entry_of (take (k + 1) keys))
+next_text texts new paths keys k t lt is adds have =
+    subst (λ l. HaveFolders new l) (append_assoc paths (map entry_of (take k keys)) (entry_of t ∷ []) ∙ ap (λ l. paths ++ l) (sym (map_next keys k t lt is)))
+    (one_more texts new (paths ++ map entry_of (take k keys)) (entry_of t) adds have)
 
 -- the last item of a list is one of those that it shows
 pub shows_last : (starts : List (Bor (List ℕ))) (last : Bor (List ℕ)) → slice_get starts (length starts - 1) ≡ Some last → Contains (shown_of starts) last.now
@@ -351,27 +312,15 @@ shows_last starts last is =
     )
 
 -- the texts that are kept of the folders of paths and beginnings
-pub folders_tell : (paths prefixes : List Entry) (some : List (List ℕ)) (starts sorted kept : List (Bor (List ℕ))) (texts : List (List ℕ))
-    → AddsFolders [] some paths → AddsFolders some (shown_of starts) prefixes
+pub folders_tell : (paths prefixes : List Entry) (starts sorted kept : List (Bor (List ℕ))) (texts : List (List ℕ)) → HaveFolders (shown_of starts) (paths ++ prefixes)
     → IsPermutation starts sorted → kept ≡ dedup same_shown sorted → texts ≡ shown_of kept → AreFolders texts paths prefixes
-folders_tell paths prefixes some starts sorted kept texts of_paths of_prefixes moved once is = record {
-  tells = λ f. (λ h. to_keys f (moved_to f h), λ h. moved_from f (from_keys f h));
+folders_tell paths prefixes starts sorted kept texts have moved once is = record {
+  tells = λ f. (
+    λ h. (key_append (IsBelow f) paths prefixes).0 ((have f).0 (h.0, (kept_same starts sorted kept moved once h.0).0 (subst (λ l. Contains l h.0) is h.1), h.2)),
+    λ h. let some = (have f).1 ((key_append (IsBelow f) paths prefixes).1 h) in
+        (some.0, subst (λ l. Contains l some.0) (sym is) ((kept_same starts sorted kept moved once some.0).1 some.1), some.2),
+  );
 }
-  where
-    moved_to : (f : List ℕ) → SomeBelow texts f → SomeBelow (shown_of starts) f
-    moved_to f h = (h.0, (kept_same starts sorted kept moved once h.0).0 (subst (λ l. Contains l h.0) is h.1), h.2)
-
-    moved_from : (f : List ℕ) → SomeBelow (shown_of starts) f → SomeBelow texts f
-    moved_from f h = (h.0, subst (λ l. Contains l h.0) (sym is) ((kept_same starts sorted kept moved once h.0).1 h.1), h.2)
-
-    to_keys : (f : List ℕ) → SomeBelow (shown_of starts) f → HasKey (IsBelow f) paths ⊎ HasKey (IsBelow f) prefixes
-    to_keys f h = ⊎_elim {C = HasKey (IsBelow f) paths ⊎ HasKey (IsBelow f) prefixes}
-        (λ front. ⊎_elim {C = HasKey (IsBelow f) paths ⊎ HasKey (IsBelow f) prefixes} (λ none. absurd (no_text f none)) (λ p. inl p) ((of_paths f).0 front))
-        (λ b. inr b) ((of_prefixes f).0 h)
-
-    from_keys : (f : List ℕ) → HasKey (IsBelow f) paths ⊎ HasKey (IsBelow f) prefixes → SomeBelow (shown_of starts) f
-    from_keys f (inl p) = (of_prefixes f).1 (inl ((of_paths f).1 (inr p)))
-    from_keys f (inr b) = (of_prefixes f).1 (inr b)
 
 -- ---- the search
 

@@ -28,9 +28,13 @@ SomeBelow texts f = (text : List ℕ) × Contains texts text × IsBelow f text
 pub record AreFolders (texts : List (List ℕ)) (paths prefixes : List Entry) : Type 0 where
   pub tells : (f : List ℕ) → SomeBelow texts f ↔ (HasKey (IsBelow f) paths ⊎ HasKey (IsBelow f) prefixes)
 
--- with the new texts, some text is below the folders that some old text or some key is below, and below no others
-abbrev pub AddsFolders : List (List ℕ) → List (List ℕ) → List Entry → Type 0
-AddsFolders old new keys = (f : List ℕ) → SomeBelow new f ↔ (SomeBelow old f ⊎ HasKey (IsBelow f) keys)
+-- some text is below the folders that some key is below, and below no others
+abbrev pub HaveFolders : List (List ℕ) → List Entry → Type 0
+HaveFolders texts keys = (f : List ℕ) → SomeBelow texts f ↔ HasKey (IsBelow f) keys
+
+-- some new text is below the folders that some old text or the key is below, and below no others
+abbrev pub AddsFolder : List (List ℕ) → List (List ℕ) → List ℕ → Type 0
+AddsFolder old new key = (f : List ℕ) → SomeBelow new f ↔ (SomeBelow old f ⊎ IsBelow f key)
 
 -- the bytes of vectors and of slices
 abbrev pub bytes_of : {X : Type 0} → List (Vec ℕ X) → List (List ℕ)

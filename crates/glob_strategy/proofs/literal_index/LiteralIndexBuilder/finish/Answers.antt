@@ -14,10 +14,10 @@ invariant_of-result c =
     record {
       at_beginning = ap (λ (t : Texts). t.anchor) c.in_ok-new.ensures;
       at_end = ap (λ (t : Texts). t.anchor) c.in_ok-new-2.ensures;
-      has_folders = subst (λ (es : List Entry). HasFolders folders c.in_ok-table_of.field-0 c.in_ok-build.field-0 c.in_ok-build-2.field-0 c.in_ok-new.field-0.entries es) (sym ends)
-          (subst (λ (es : List Entry). HasFolders folders c.in_ok-table_of.field-0 c.in_ok-build.field-0 c.in_ok-build-2.field-0 es (map entry_of inside.ends.items)) (sym prefixes)
-          (subst (λ (es : List Entry). HasFolders folders c.in_ok-table_of.field-0 c.in_ok-build.field-0 es (map entry_of inside.prefixes.items) (map entry_of inside.ends.items)) (sym c.in_ok-build-2.ensures)
-          (subst (λ (es : List Entry). HasFolders folders c.in_ok-table_of.field-0 es inside.extensions (map entry_of inside.prefixes.items) (map entry_of inside.ends.items)) (sym c.in_ok-build.ensures)
-          (subst (λ (es : List Entry). HasFolders folders es inside.components inside.extensions (map entry_of inside.prefixes.items) (map entry_of inside.ends.items)) (sym c.in_ok-table_of.ensures)
+      has_folders = subst (λ (es : List Entry). HasFolders folders c.in_ok-build.field-0 c.in_ok-build-2.field-0 c.in_ok-build-3.field-0 c.in_ok-new.field-0.entries es) (sym ends)
+          (subst (λ (es : List Entry). HasFolders folders c.in_ok-build.field-0 c.in_ok-build-2.field-0 c.in_ok-build-3.field-0 es (map entry_of inside.ends.items)) (sym prefixes)
+          (subst (λ (es : List Entry). HasFolders folders c.in_ok-build.field-0 c.in_ok-build-2.field-0 es (map entry_of inside.prefixes.items) (map entry_of inside.ends.items)) (sym c.in_ok-build-3.ensures)
+          (subst (λ (es : List Entry). HasFolders folders c.in_ok-build.field-0 es inside.extensions (map entry_of inside.prefixes.items) (map entry_of inside.ends.items)) (sym c.in_ok-build-2.ensures)
+          (subst (λ (es : List Entry). HasFolders folders es inside.components inside.extensions (map entry_of inside.prefixes.items) (map entry_of inside.ends.items)) (sym c.in_ok-build.ensures)
           (subst (λ (k : KeyParts). HasFolders folders k.paths k.components k.extensions k.prefixes k.ends) (sym c.self.view_is) c.in_ok-folders.ensures)))));
     }

@@ -7,7 +7,7 @@ use Rattle.glob_strategy.proofs.literal_index.LiteralIndexBuilder.new.Goals as g
 pub returns-clause-found : goal.returns-clause-found
 returns-clause-found c = λ path.
     nothing_if _ (λ i. record {
-      paths = map entry_of (c.new.ensures.items i);
+      paths = c.new.ensures i;
       components = c.new-2.ensures i;
       extensions = c.new-3.ensures i;
       prefixes = map entry_of (c.new-4.ensures.items i);
@@ -17,7 +17,7 @@ returns-clause-found c = λ path.
 pub returns-clause-below : goal.returns-clause-below
 returns-clause-below c = λ folder.
     nothing_below_if _ (λ i. record {
-      paths = map entry_of (c.new.ensures.items i);
+      paths = c.new.ensures i;
       components = c.new-2.ensures i;
       extensions = c.new-3.ensures i;
       prefixes = map entry_of (c.new-4.ensures.items i);
