@@ -46,7 +46,7 @@ pub fn decide_by(number: u32) -> DecideBy
 }
 
 /// A rule that decides about a path, as C sees it: the index of its file and the number of its line, both 0 if no rule decides, and
-/// the decision, as [`globset_raw_ignore_decide_many`] writes it.
+/// the decision, as `globset_raw_ignore_decide_many` writes it.
 #[repr(C)]
 #[derive(Clone, Copy)]
 pub struct ToldRule {
@@ -61,6 +61,7 @@ pub trait Told: Copy {
 
     ghost told: { Option RuleValue → Self };
 
+    /// Returns what is told of this rule, or where no rule decides.
     fn told(rule: Option<DecidingRule>) -> Self
         ensures { result ≡ told rule };
 }

@@ -208,7 +208,7 @@ impl GlobSet {
         }
     }
 
-    // Only for `globset_c`, whose globs are lent one by one.
+    // Only for `c_objects`, whose globs are lent one by one.
     #[doc(hidden)]
     pub fn of_matcher(matcher: Arc<SetMatcher>) -> GlobSet
         ensures globs { set_globs result ≡ set_globs (arc_value matcher).set }

@@ -1,5 +1,5 @@
 //! Matchers of sets of globs: the stored form of a set, which returns the indexes of its globs that match a path. The crates
-//! `globset` and `globset_c` use it, and neither re-exports it.
+//! `globset` and `c_objects` use it, and neither re-exports it.
 //!
 //! [`SetMatcherBuilder`] takes globs in order, and puts the tokens of each where its strategy says. [`SetMatcher`] looks up keys
 //! for the globs that a key decides, and runs automata for the others. They work in a [`Scratch`](glob_matching::Scratch), and
