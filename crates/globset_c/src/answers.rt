@@ -1,6 +1,6 @@
 //! Answers to questions about globs and rules of ignore files.
 
-ghost use Rattle.std.specs.Prelude.{◌≡◌, ◌≢◌, ◌≤◌, Some, [], ◌∷◌, IsSome, length, slice_get};
+ghost use Rattle.std.specs.Prelude.{◌≡◌, ◌≢◌, ◌↔◌, ◌≤◌, Some, [], ◌∷◌, IsSome, length, slice_get};
 ghost use Rattle.c_objects.specs.Kinds.{IfAnswers, IsAnswers};
 ghost use Rattle.c_objects.specs.Relations.{lines_told, told, a_path, below_ignored, no_path, limit_reached};
 ghost use Rattle.c_objects.specs.Statuses.{IsOneOf};
@@ -38,8 +38,7 @@ pub extern "C" fn globset_raw_answers_at<'a>(
         → indexes.new.items.now ≡ [] }
 
     // Only these statuses come. The kind decides whether WRONG_KIND does, and the index whether BAD_INDEX does.
-    ensures right_kind { IsAnswers answers.old.object → result ≢ WRONG_KIND }
-    ensures other_kind { ¬ (IsAnswers answers.old.object) → result ≡ WRONG_KIND }
+    ensures kind { (result ≡ WRONG_KIND) ↔ (¬ (IsAnswers answers.old.object)) }
     ensures bad_index { result ≡ BAD_INDEX
         → IfAnswers answers.old.object (λ all. length (told all) ≤ index) }
     ensures statuses { IsOneOf
@@ -81,8 +80,7 @@ pub extern "C" fn globset_raw_answers_lines<'a>(
     ensures empty_after_errors { result ≢ DONE → lines.new.items.now ≡ [] }
 
     // Only these statuses come, and the kind decides whether WRONG_KIND does.
-    ensures right_kind { IsAnswers answers.old.object → result ≢ WRONG_KIND }
-    ensures other_kind { ¬ (IsAnswers answers.old.object) → result ≡ WRONG_KIND }
+    ensures kind { (result ≡ WRONG_KIND) ↔ (¬ (IsAnswers answers.old.object)) }
     ensures statuses { IsOneOf (DONE ∷ WRONG_KIND ∷ []) result }
 {
     lines.items = &[];

@@ -1,6 +1,6 @@
 //! Builders of sets.
 
-ghost use Rattle.std.specs.Prelude.{◌≡◌, ◌≢◌, Some, [], ◌∷◌, ◌++◌, IsSome};
+ghost use Rattle.std.specs.Prelude.{◌≡◌, ◌≢◌, ◌↔◌, Some, [], ◌∷◌, ◌++◌, IsSome};
 ghost use Rattle.globset.specs.SetValue.{builder_globs, set_globs};
 ghost use Rattle.c_objects.specs.Kinds.{IfBuilder, IfGlob, IfSet, IsBuilder, IsGlob};
 ghost use Rattle.c_objects.specs.Statuses.{IsOneOf};
@@ -76,8 +76,7 @@ pub extern "C" fn globset_raw_builder_build(
     ensures refused { result ≢ DONE → out.new ≡ out.old }
 
     // Only these statuses come, and the kind decides whether WRONG_KIND does.
-    ensures right_kind { IsBuilder builder.old.object → result ≢ WRONG_KIND }
-    ensures other_kind { ¬ (IsBuilder builder.old.object) → result ≡ WRONG_KIND }
+    ensures kind { (result ≡ WRONG_KIND) ↔ (¬ (IsBuilder builder.old.object)) }
     ensures statuses { IsOneOf (DONE ∷ OUT_OF_MEMORY ∷ WRONG_KIND ∷ []) result }
 {
     let Object::Builder(builder) = builder.as_mut() else {

@@ -1,6 +1,6 @@
 //! Globs: reading one, what it has, and escaping a text.
 
-ghost use Rattle.std.specs.Prelude.{◌≡◌, ◌≢◌, Some, [], ◌∷◌};
+ghost use Rattle.std.specs.Prelude.{◌≡◌, ◌≢◌, ◌↔◌, Some, [], ◌∷◌};
 ghost use Rattle.std.specs.Str.{IsUtf8};
 ghost use Rattle.glob_text.specs.GlobMatches.{tokens_of_glob, IsRead};
 ghost use Rattle.glob_text.specs.RegexText.{regex_text};
@@ -85,8 +85,7 @@ pub extern "C" fn globset_raw_glob_regex(
     ensures same_needed { result ≢ DONE → result ≢ TOO_SMALL → needed.new ≡ needed.old }
 
     // Only these statuses come, and the kind decides whether WRONG_KIND does.
-    ensures right_kind { IsGlob (Some glob.old.object) → result ≢ WRONG_KIND }
-    ensures other_kind { ¬ (IsGlob (Some glob.old.object)) → result ≡ WRONG_KIND }
+    ensures kind { (result ≡ WRONG_KIND) ↔ (¬ (IsGlob (Some glob.old.object))) }
     ensures statuses { IsOneOf (DONE ∷ OUT_OF_MEMORY ∷ WRONG_KIND ∷ TOO_SMALL ∷ []) result }
 {
     // The borrow checker has to be told the type that is lent, which nothing else here names.
@@ -124,8 +123,7 @@ pub extern "C" fn globset_raw_glob_text(
     ensures same_needed { result ≢ DONE → result ≢ TOO_SMALL → needed.new ≡ needed.old }
 
     // Only these statuses come, and the kind decides whether WRONG_KIND does.
-    ensures right_kind { IsGlob (Some glob.old.object) → result ≢ WRONG_KIND }
-    ensures other_kind { ¬ (IsGlob (Some glob.old.object)) → result ≡ WRONG_KIND }
+    ensures kind { (result ≡ WRONG_KIND) ↔ (¬ (IsGlob (Some glob.old.object))) }
     ensures statuses { IsOneOf (DONE ∷ OUT_OF_MEMORY ∷ WRONG_KIND ∷ TOO_SMALL ∷ []) result }
 {
     // The borrow checker has to be told the type that is lent, which nothing else here names.

@@ -1,7 +1,7 @@
 //! Lines of the ignore files of a walk.
 
 ghost use Rattle.std.specs.Option.{option_and_then, option_map};
-ghost use Rattle.std.specs.Prelude.{◌≡◌, ◌≢◌, None, Some, [], ◌∷◌, IsSome};
+ghost use Rattle.std.specs.Prelude.{◌≡◌, ◌≢◌, ◌↔◌, None, Some, [], ◌∷◌, IsSome};
 ghost use Rattle.git_ignore.specs.Rules.{line_text_at, unread_lines_of};
 ghost use Rattle.git_ignore.specs.StackValue.{file_at};
 ghost use Rattle.c_objects.specs.Kinds.{IfIgnore, IsIgnore};
@@ -26,8 +26,7 @@ pub extern "C" fn globset_raw_ignore_unread_lines<'a>(
     ensures empty_after_errors { result ≢ DONE → lines.new.items.now ≡ [] }
 
     // Only these statuses come. The kind decides whether WRONG_KIND does, and the index whether BAD_INDEX does.
-    ensures right_kind { IsIgnore ignore.old.object → result ≢ WRONG_KIND }
-    ensures other_kind { ¬ (IsIgnore ignore.old.object) → result ≡ WRONG_KIND }
+    ensures kind { (result ≡ WRONG_KIND) ↔ (¬ (IsIgnore ignore.old.object)) }
     ensures bad_index { result ≡ BAD_INDEX
         → IfIgnore ignore.old.object (λ s. file_at s file ≡ None) }
     ensures statuses { IsOneOf (DONE ∷ BAD_INDEX ∷ WRONG_KIND ∷ []) result }
@@ -61,8 +60,7 @@ pub extern "C" fn globset_raw_ignore_line_text<'a>(
     ensures empty_after_errors { result ≢ DONE → text.new.items.now ≡ [] }
 
     // Only these statuses come. The kind decides whether WRONG_KIND does, and the file and the line whether BAD_INDEX does.
-    ensures right_kind { IsIgnore ignore.old.object → result ≢ WRONG_KIND }
-    ensures other_kind { ¬ (IsIgnore ignore.old.object) → result ≡ WRONG_KIND }
+    ensures kind { (result ≡ WRONG_KIND) ↔ (¬ (IsIgnore ignore.old.object)) }
     ensures bad_index { result ≡ BAD_INDEX → IfIgnore ignore.old.object
         (λ s. option_and_then (λ bytes. line_text_at bytes line) (file_at s file) ≡ None) }
     ensures statuses { IsOneOf (DONE ∷ BAD_INDEX ∷ WRONG_KIND ∷ []) result }

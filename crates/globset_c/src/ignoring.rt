@@ -1,6 +1,6 @@
 //! Walks with their ignore files.
 
-ghost use Rattle.std.specs.Prelude.{◌≡◌, ◌≢◌, [], ◌∷◌, IsSome};
+ghost use Rattle.std.specs.Prelude.{◌≡◌, ◌≢◌, ◌↔◌, [], ◌∷◌, IsSome};
 ghost use Rattle.git_ignore.specs.StackValue.{at_top, entered, left, with_file};
 ghost use Rattle.c_objects.specs.Ignoring.{AreIgnoreOptions, ignores_case};
 ghost use Rattle.c_objects.specs.Kinds.{IfIgnore, IfIgnores, IsIgnore};
@@ -43,8 +43,7 @@ pub extern "C" fn globset_raw_ignore_add_file(ignore: &mut Owned, file: &[u8]) -
     ensures kept { result ≢ DONE → ignore.new.object ≡ ignore.old.object }
 
     // Only these statuses come, and the kind decides whether WRONG_KIND does.
-    ensures right_kind { IsIgnore ignore.old.object → result ≢ WRONG_KIND }
-    ensures other_kind { ¬ (IsIgnore ignore.old.object) → result ≡ WRONG_KIND }
+    ensures kind { (result ≡ WRONG_KIND) ↔ (¬ (IsIgnore ignore.old.object)) }
     ensures statuses { IsOneOf (DONE ∷ OUT_OF_MEMORY ∷ WRONG_KIND ∷ []) result }
 {
     match ignore.as_mut() {
@@ -67,8 +66,7 @@ pub extern "C" fn globset_raw_ignore_enter(ignore: &mut Owned, name: &[u8]) -> S
     ensures kept { result ≢ DONE → ignore.new.object ≡ ignore.old.object }
 
     // Only these statuses come, and the kind decides whether WRONG_KIND does.
-    ensures right_kind { IsIgnore ignore.old.object → result ≢ WRONG_KIND }
-    ensures other_kind { ¬ (IsIgnore ignore.old.object) → result ≡ WRONG_KIND }
+    ensures kind { (result ≡ WRONG_KIND) ↔ (¬ (IsIgnore ignore.old.object)) }
     ensures statuses { IsOneOf (DONE ∷ OUT_OF_MEMORY ∷ WRONG_KIND ∷ []) result }
 {
     match ignore.as_mut() {

@@ -1,6 +1,6 @@
 //! Matchers of a glob, and searchers of these: matchers, each with the memory for a thread.
 
-ghost use Rattle.std.specs.Prelude.{◌≡◌, ◌≢◌, Some, [], ◌∷◌, true, false, IsSome};
+ghost use Rattle.std.specs.Prelude.{◌≡◌, ◌≢◌, ◌↔◌, Some, [], ◌∷◌, true, false, IsSome};
 ghost use Rattle.c_objects.specs.Kinds.{IfGlob, IfMatcher, IsGlob, IfMatcherSearcher, IsMatcher, IsMatcherSearcher};
 ghost use Rattle.c_objects.specs.Statuses.{IsOneOf};
 ghost use Rattle.glob_text.specs.GlobMatches.{glob_matches};
@@ -23,8 +23,7 @@ pub extern "C" fn globset_raw_matcher_new(alloc: Global, glob: &mut Lent, out: &
     ensures refused { result ≢ DONE → out.new ≡ out.old }
 
     // Only these statuses come, and the kind decides whether WRONG_KIND does.
-    ensures right_kind { IsGlob (Some glob.old.object) → result ≢ WRONG_KIND }
-    ensures other_kind { ¬ (IsGlob (Some glob.old.object)) → result ≡ WRONG_KIND }
+    ensures kind { (result ≡ WRONG_KIND) ↔ (¬ (IsGlob (Some glob.old.object))) }
     ensures statuses { IsOneOf (DONE ∷ OUT_OF_MEMORY ∷ WRONG_KIND ∷ []) result }
 {
     let made = glob.read((), |object, ()| match object {
@@ -52,8 +51,7 @@ pub extern "C" fn globset_raw_matcher_searcher_new(
     ensures refused { result ≢ DONE → out.new ≡ out.old }
 
     // Only these statuses come, and the kind decides whether WRONG_KIND does.
-    ensures right_kind { IsMatcher (Some matcher.old.object) → result ≢ WRONG_KIND }
-    ensures other_kind { ¬ (IsMatcher (Some matcher.old.object)) → result ≡ WRONG_KIND }
+    ensures kind { (result ≡ WRONG_KIND) ↔ (¬ (IsMatcher (Some matcher.old.object))) }
     ensures statuses { IsOneOf (DONE ∷ OUT_OF_MEMORY ∷ WRONG_KIND ∷ []) result }
 {
     let made = matcher.read(alloc, |object, alloc| match object {

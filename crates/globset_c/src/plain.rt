@@ -1,6 +1,6 @@
 //! Plain calls: on a set or a matcher alone. They allocate the memory that they need.
 
-ghost use Rattle.std.specs.Prelude.{◌≡◌, ◌≢◌, Some, [], ◌∷◌, true, false};
+ghost use Rattle.std.specs.Prelude.{◌≡◌, ◌≢◌, ◌↔◌, Some, [], ◌∷◌, true, false};
 ghost use Rattle.glob_text.specs.GlobMatches.{glob_matches};
 ghost use Rattle.globset.specs.Answer.{matching_indexes};
 ghost use Rattle.globset.specs.SetValue.{set_globs};
@@ -28,8 +28,7 @@ pub extern "C" fn globset_raw_matcher_is_match_plain(matcher: &mut Lent, path: &
         → IfMatcher (Some matcher.old.object) (λ m. glob_matches m path.now ≡ false) }
 
     // Only these statuses come, and the kind decides whether WRONG_KIND does.
-    ensures right_kind { IsMatcher (Some matcher.old.object) → result ≢ WRONG_KIND }
-    ensures other_kind { ¬ (IsMatcher (Some matcher.old.object)) → result ≡ WRONG_KIND }
+    ensures kind { (result ≡ WRONG_KIND) ↔ (¬ (IsMatcher (Some matcher.old.object))) }
     ensures statuses { IsOneOf (NO ∷ YES ∷ OUT_OF_MEMORY ∷ WRONG_KIND ∷ []) result }
 {
     // The borrow checker has to be told the type that is lent, which nothing else here names.
@@ -55,8 +54,7 @@ pub extern "C" fn globset_raw_set_is_match_plain(set: &mut Lent, path: &[u8]) ->
         → IfSet (Some set.old.object) (λ s. matching_indexes (set_globs s) path.now ≡ []) }
 
     // Only these statuses come, and the kind decides whether WRONG_KIND does.
-    ensures right_kind { IsSet (Some set.old.object) → result ≢ WRONG_KIND }
-    ensures other_kind { ¬ (IsSet (Some set.old.object)) → result ≡ WRONG_KIND }
+    ensures kind { (result ≡ WRONG_KIND) ↔ (¬ (IsSet (Some set.old.object))) }
     ensures statuses { IsOneOf (NO ∷ YES ∷ OUT_OF_MEMORY ∷ WRONG_KIND ∷ []) result }
 {
     // The borrow checker has to be told the type that is lent, which nothing else here names.
@@ -76,8 +74,7 @@ pub extern "C" fn globset_raw_set_matches_all_plain(set: &mut Lent, path: &[u8])
     ensures no { result ≡ NO → IfSet (Some set.old.object) (λ s. ¬ (IsAll s path.now)) }
 
     // Only these statuses come, and the kind decides whether WRONG_KIND does.
-    ensures right_kind { IsSet (Some set.old.object) → result ≢ WRONG_KIND }
-    ensures other_kind { ¬ (IsSet (Some set.old.object)) → result ≡ WRONG_KIND }
+    ensures kind { (result ≡ WRONG_KIND) ↔ (¬ (IsSet (Some set.old.object))) }
     ensures statuses { IsOneOf (NO ∷ YES ∷ OUT_OF_MEMORY ∷ WRONG_KIND ∷ []) result }
 {
     // The borrow checker has to be told the type that is lent, which nothing else here names.
@@ -109,8 +106,7 @@ pub extern "C" fn globset_raw_set_matches_plain(
     ensures same_needed { result ≢ DONE → result ≢ TOO_SMALL → needed.new ≡ needed.old }
 
     // Only these statuses come, and the kind decides whether WRONG_KIND does.
-    ensures right_kind { IsSet (Some set.old.object) → result ≢ WRONG_KIND }
-    ensures other_kind { ¬ (IsSet (Some set.old.object)) → result ≡ WRONG_KIND }
+    ensures kind { (result ≡ WRONG_KIND) ↔ (¬ (IsSet (Some set.old.object))) }
     ensures statuses { IsOneOf (DONE ∷ OUT_OF_MEMORY ∷ WRONG_KIND ∷ TOO_SMALL ∷ []) result }
 {
     // The borrow checker has to be told the type that is lent, which nothing else here names.

@@ -1,6 +1,6 @@
 //! Searchers: sets, each with the memory for a thread.
 
-ghost use Rattle.std.specs.Prelude.{◌≡◌, ◌≢◌, Some, [], ◌∷◌, length, IsSome};
+ghost use Rattle.std.specs.Prelude.{◌≡◌, ◌≢◌, ◌↔◌, Some, [], ◌∷◌, length, IsSome};
 ghost use Rattle.globset.specs.Answer.{matching_indexes};
 ghost use Rattle.globset.specs.Below.{MatchesBelow};
 ghost use Rattle.globset.specs.SetValue.{set_globs};
@@ -31,8 +31,7 @@ pub extern "C" fn globset_raw_searcher_new(alloc: Global, set: &mut Lent, out: &
     ensures refused { result ≢ DONE → out.new ≡ out.old }
 
     // Only these statuses come, and the kind decides whether WRONG_KIND does.
-    ensures right_kind { IsSet (Some set.old.object) → result ≢ WRONG_KIND }
-    ensures other_kind { ¬ (IsSet (Some set.old.object)) → result ≡ WRONG_KIND }
+    ensures kind { (result ≡ WRONG_KIND) ↔ (¬ (IsSet (Some set.old.object))) }
     ensures statuses { IsOneOf (DONE ∷ OUT_OF_MEMORY ∷ WRONG_KIND ∷ []) result }
 {
     let made = set.read(alloc, |object, alloc| match object {

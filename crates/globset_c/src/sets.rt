@@ -1,6 +1,6 @@
 //! Sets of globs that are lent, and how many globs a set has.
 
-ghost use Rattle.std.specs.Prelude.{◌≡◌, ◌≢◌, Some, [], ◌∷◌, length};
+ghost use Rattle.std.specs.Prelude.{◌≡◌, ◌≢◌, ◌↔◌, Some, [], ◌∷◌, length};
 ghost use Rattle.globset.specs.SetValue.{set_globs};
 ghost use Rattle.c_objects.specs.Kinds.{IfSet, IsSet};
 ghost use Rattle.c_objects.specs.LentGlobs.{AreGlobs, lent_globs};
@@ -28,8 +28,7 @@ pub extern "C" fn globset_raw_set_of_globs(
     ensures refused { result ≢ DONE → out.new ≡ out.old }
 
     // Only these statuses come, and the kinds decide whether WRONG_KIND does.
-    ensures right_kind { AreGlobs globs.old → result ≢ WRONG_KIND }
-    ensures other_kind { ¬ (AreGlobs globs.old) → result ≡ WRONG_KIND }
+    ensures kind { (result ≡ WRONG_KIND) ↔ (¬ (AreGlobs globs.old)) }
     ensures statuses { IsOneOf (DONE ∷ OUT_OF_MEMORY ∷ WRONG_KIND ∷ []) result }
 {
     if !are_globs(globs) {
