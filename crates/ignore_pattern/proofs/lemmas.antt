@@ -3,6 +3,7 @@ pub mod Below
 pub mod Booleans
 pub mod Building
 pub mod Classes
+pub mod Closers
 pub mod Compared
 pub mod Cuts
 pub mod Ends

@@ -1,7 +1,7 @@
 //! Character classes.
 
-ghost use Rattle.std.specs.Prelude.{◌≡◌, ◌≤◌, ◌==◌, ◌&&◌, not, zero, true, None, IfOk, IfSome, length};
-ghost use Rattle.std.specs.List.{list_any};
+ghost use Rattle.std.specs.Prelude.{◌≡◌, ◌≤◌, ◌==◌, ◌&&◌, not, zero, true, None, IfOk, IfSome, drop, length};
+ghost use Rattle.std.specs.List.{list_any, position};
 ghost use Rattle.std.specs.Option.{option_map};
 ghost use Rattle.ignore_pattern.specs.Classes.{compared, item_has, class_matches, class_items};
 
@@ -27,21 +27,45 @@ pub fn class_items(alloc: Global, cs: &[u8]) -> Result<Option<(Vec<Item>, usize)
     let mut first = true;
     let mut last = None;
     let mut rest = cs;
+    let mut closer = first_closer(cs);
     while let [c, after @ ..] = rest {
         if closes(first, *c) {
             return Ok(Some((items, cs.len() - after.len())));
         }
-        match item_at(last, *c, after) {
+        closer = closer_after(closer, 1, rest);
+        match item_at(last, *c, after, closer) {
             None => return Ok(None),
             Some(found) => {
                 items.push(found.item)?;
                 first = false;
                 last = found.last;
+                closer = closer_after(closer, found.more, after);
                 rest = after.split_at(found.more).1;
             }
         }
     }
     Ok(None)
+}
+
+/// Returns where the first `]` is.
+fn first_closer(cs: &[u8]) -> Option<usize>
+    ensures { result ≡ position (λ d. d == 93) cs.now }
+{
+    cs.iter().position(|c| *c == b']')
+}
+
+/// Returns where the first `]` is after the first `count` bytes. `closer` is where the first of all is, so this searches only if
+/// that is among those bytes.
+fn closer_after(closer: Option<usize>, count: usize, cs: &[u8]) -> Option<usize>
+    requires known { closer ≡ position (λ d. d == 93) cs.now }
+    requires within { count ≤ length cs.now }
+    ensures { result ≡ position (λ d. d == 93) (drop count cs.now) }
+{
+    match closer {
+        None => None,
+        Some(at) if at >= count => Some(at - count),
+        Some(_) => first_closer(cs.split_at(count).1),
+    }
 }
 
 /// Returns the byte as it is compared: an ASCII letter in lower case, if case is ignored.

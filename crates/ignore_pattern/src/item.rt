@@ -192,26 +192,19 @@ fn name_at(body: &[u8]) -> Option<ItemAt>
     }
 }
 
-/// Returns the item at a `[` inside a class, before `cs`.
-fn bracket_at(cs: &[u8]) -> Option<ItemAt>
+/// Returns the item at a `[` inside a class, before `cs`. `closer` is where the first `]` of `cs` is.
+fn bracket_at(cs: &[u8], closer: Option<usize>) -> Option<ItemAt>
+    requires { closer ≡ position (λ d. d == 93) cs.now }
     ensures value { result ≡ bracket_at cs.now }
     ensures within { IfSome result (λ i. i.more ≤ length cs.now) }
 {
     match cs {
-        [b':', after @ ..] => match first_closer(after) {
+        [b':', after @ ..] => match closer {
             None => None,
-            Some(count) => name_at(after.split_at(count).0),
+            Some(closer) => name_at(after.split_at(closer - 1).0),
         },
         _ => Some(member(b'[', 0)),
     }
-}
-
-/// Returns the position of the first `]`.
-fn first_closer(cs: &[u8]) -> Option<usize>
-    ensures value { result ≡ position (λ d. d == 93) cs.now }
-    ensures within { IfSome result (λ n. n < length cs.now) }
-{
-    cs.iter().position(|c| *c == b']')
 }
 
 /// Returns the item at a `\` inside a class, before `cs`.
@@ -225,15 +218,17 @@ fn escape_at(cs: &[u8]) -> Option<ItemAt>
     }
 }
 
-/// Returns the item at `c` inside a class, before `cs`, where a `-` can make a range from `last`.
+/// Returns the item at `c` inside a class, before `cs`, where a `-` can make a range from `last`. `closer` is where the first `]`
+/// of `cs` is.
 #[tactic(auto, unfolding(crate::specs::Classes::item_at))]
-pub fn item_at(last: Option<u8>, c: u8, cs: &[u8]) -> Option<ItemAt>
+pub fn item_at(last: Option<u8>, c: u8, cs: &[u8], closer: Option<usize>) -> Option<ItemAt>
+    requires { closer ≡ position (λ d. d == 93) cs.now }
     ensures value { result ≡ item_at last c cs.now }
     ensures within { IfSome result (λ i. i.more ≤ length cs.now) }
 {
     match c {
         b'\\' => escape_at(cs),
-        b'[' => bracket_at(cs),
+        b'[' => bracket_at(cs, closer),
         b'-' => match last {
             None => Some(member(b'-', 0)),
             Some(x) => hyphen_at(x, cs),

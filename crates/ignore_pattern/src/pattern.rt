@@ -81,8 +81,7 @@ impl IgnorePattern {
 ///
 /// Returns `None` if the line has no pattern, or a pattern that cannot be read: then git matches nothing with it.
 ///
-/// This takes time and memory linear in the length of the line. The exception is a `[:` in a class, which takes a search for the
-/// next `]`.
+/// This takes time and memory linear in the length of the line.
 ///
 /// ```
 /// let pattern = pattern_of_line(alloc, b"!build/")?;
