@@ -1,6 +1,6 @@
 //! Automata where patterns share an index, to compare patterns.
 
-ghost use Rattle.std.specs.Prelude.{◌≡◌, ◌<◌, ◌++◌, ◌∷◌, [], Bool, List, IfOk, OnOk};
+ghost use Rattle.std.specs.Prelude.{◌≡◌, ◌<◌, ◌++◌, ◌∷◌, [], List, IfOk, OnOk};
 ghost use Rattle.byte_nfa.specs.Runs.{size};
 ghost use Rattle.ignore_pattern.specs.Compared.{IndexedPattern, indexed, Compares};
 ghost use Rattle.ignore_pattern.specs.inner.States.{BuildsAlone, Grows};
@@ -8,15 +8,7 @@ ghost use Rattle.ignore_pattern.specs.inner.States.{BuildsAlone, Grows};
 use crate::automaton::push_matching;
 use crate::pattern::IgnorePattern;
 use byte_nfa::Builder;
-use std::alloc::{AllocError, Global};
-
-/// Returns a builder of an automaton with no patterns, whose indexes will be below a number.
-pub fn new_builder(alloc: Global, index_count: usize) -> Builder
-    ensures patterns { (ignore_case : Bool) → Compares ignore_case [] result }
-    ensures index_count { result.index_count ≡ index_count }
-{
-    Builder::new(alloc, index_count)
-}
+use std::alloc::AllocError;
 
 /// Adds a pattern to an automaton that is being built: each path that the pattern matches leads to the index. Other patterns may
 /// have the same index.

@@ -67,6 +67,6 @@ mod reading;
 mod states;
 
 pub use automaton::automaton_of;
-pub use compared::{add_pattern, new_builder};
+pub use compared::add_pattern;
 pub use line::line_text;
 pub use pattern::{IgnorePattern, pattern_of_line};

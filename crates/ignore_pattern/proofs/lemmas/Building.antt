@@ -28,13 +28,6 @@ grows_then m n r f g = record {
   index_count = g.index_count ∙ f.index_count;
 }
 
-pub grows_push : (m n : NfaValue) (s : ℕ) (st : State) → Pushes m n s st → Grows m n
-grows_push m n s st p = record {
-  keeps = p.keeps;
-  starts = p.starts;
-  index_count = p.index_count;
-}
-
 -- what agrees with the new states agrees with the old ones
 pub agrees_old : (a old new : List State) (low : ℕ) → Keeps old new → Agrees a new low (length new) → Agrees a old low (length old)
 agrees_old a old new low keeps agrees = λ s le lt. let more = keeps.0 in agrees s le (omega arith) ∙ keeps.1 s (omega arith) lt

@@ -30,9 +30,6 @@ alone_built ignore_case p j old mid new s e pushed grows builds = λ a agrees pa
     let at : state a e ≡ match_state j = pushed.adds a (length old.states) (omega arith) (agrees_old a mid.states new.states (length old.states) grows.keeps agrees) in
     accepted a (pattern_matches ignore_case p) s e j k path bytes (builds a (agrees_higher a new.states (length old.states) (length mid.states) more agrees)) at
 
-pub none_compared : (ignore_case : Bool) (m : NfaValue) → m.starts ≡ [] → Compares ignore_case [] m
-none_compared ignore_case m is = λ a agrees path k bytes. (λ (s, at, h). subst (HasNumber s) is at, λ h. absurd h)
-
 module _ (ignore_case : Bool) (x : IndexedPattern) (path : List ℕ) (k : ℕ) where
   some_push : (xs : List IndexedPattern) → SomeMatchFor ignore_case (xs ++ x ∷ []) path k ↔ (SomeMatchFor ignore_case xs path k ⊎ MatchesFor ignore_case x path k)
   some_push [] = (

@@ -113,12 +113,6 @@ module _ (a : List State) where
           let parts' : w ≡ y ++ (u ++ z) = cut ∙ ap (λ l. l ++ z) parts ∙ append_assoc y u z in
           (f k w bytes).1 (y, u ++ z, parts', and_first (P y) (Q u) pq, (g k (u ++ z) (right_of w y (u ++ z) parts' bytes)).1 (u, z, refl, and_second (P y) (Q u) pq, after))
 
-  leads_same : (s e : ℕ) (P Q : List ℕ → Bool) → ((y : List ℕ) → AllBytes y → P y ≡ Q y) → Leads a s P e → Leads a s Q e
-  leads_same s e P Q same f k w bytes = (
-    λ h. let (y, z, cut, p, rest) = (f k w bytes).0 h in (y, z, cut, sym (same y (left_of w y z cut bytes)) ∙ p, rest),
-    λ (y, z, cut, q, rest). (f k w bytes).1 (y, z, cut, same y (left_of w y z cut bytes) ∙ q, rest),
-  )
-
   pub leads_iff : (s e : ℕ) (P Q : List ℕ → Bool) → ((y : List ℕ) → IsTrue (P y) ↔ IsTrue (Q y)) → Leads a s P e → Leads a s Q e
   leads_iff s e P Q same f k w bytes = (
     λ h. let (y, z, cut, p, rest) = (f k w bytes).0 h in (y, z, cut, (same y).0 p, rest),

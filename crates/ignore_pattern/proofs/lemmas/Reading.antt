@@ -10,10 +10,6 @@ abbrev pub before : List Element → Option (List Element) → Option (List Elem
 before es None = None
 before es (Some others) = Some (es ++ others)
 
-pub nothing_before : (o : Option (List Element)) → before [] o ≡ o
-nothing_before None = refl
-nothing_before (Some others) = refl
-
 skip : (whole : Bool) (place : Place) (n : ℕ) (cs : List ℕ) → elements whole place n cs ≡ elements whole place zero (drop n cs)
 unfolding elements
 skip whole place zero cs = refl
