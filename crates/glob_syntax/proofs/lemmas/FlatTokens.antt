@@ -32,9 +32,6 @@ nests_append (comma ∷ ts) us (suc n) m k h g = nests_append ts us (suc n) m k 
 nests_append (closing ∷ ts) us zero m k h g = absurd h
 nests_append (closing ∷ ts) us (suc n) m k h g = nests_append ts us n m k h g
 
-pub nests_simple : (ts : List Flat) (p : tree.Token) (n m : ℕ) → Nests n ts m → Nests n (ts ++ simple p ∷ []) m
-nests_simple ts p n m h = nests_append ts (simple p ∷ []) n m m h refl
-
 pub nests_open : (ts : List Flat) (n m : ℕ) → Nests n ts m → Nests n (ts ++ opening ∷ []) (suc m)
 nests_open ts n m h = nests_append ts (opening ∷ []) n m (suc m) h refl
 
