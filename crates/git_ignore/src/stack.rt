@@ -131,6 +131,10 @@ impl IgnoreStack {
     /// Reads an ignore file of the folder that the walk is in, given by its bytes. It takes precedence over the files that are
     /// there already.
     ///
+    /// The call takes time and memory as [`crate::Rules::new`] does, and copies the path of the folder. It also reserves up to 4 MiB
+    /// for the rows of the file, or more for a file of hundreds of thousands of states, unless there is too little memory for that.
+    /// The walk frees all this when it leaves the folder.
+    ///
     /// After an error nothing has changed.
     pub fn add_file(&mut self, file: &[u8]) -> Result<(), AllocError>
         ensures added { OnOk result (self.new ≡ with_file self.old file.now) }
