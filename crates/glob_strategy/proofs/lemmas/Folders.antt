@@ -225,9 +225,6 @@ key_append P xs ys = (
       (λ back. (back.0, back.1, Contains-append_right xs ys (entry back.0 back.1) back.2, back.3)) h,
 )
 
-no_key : (P : List ℕ → Type 0) → HasKey P [] → ⊥
-no_key P h = omega (arith, h.2.1)
-
 one_key : (P : List ℕ → Type 0) (e : Entry) → HasKey P (e ∷ []) ↔ P e.key
 one_key P e = (to, λ p. (e.key, e.index, (0, omega arith, refl), p))
   where
@@ -276,9 +273,6 @@ adds_known texts start key of_key known f = (
     here below = ⊎_elim {C = SomeBelow texts f} (λ empty. absurd (omega (arith, shorter f [] (subst (IsBelow f) empty below)))) (λ has. (start, has, below)) known
 
 -- ---- the folders of keys that were read
-
-pub none_read : (starts : List (Bor (List ℕ))) → starts ≡ [] → HaveFolders (shown_of starts) []
-none_read starts is f = (λ h. absurd (omega (arith, (subst (λ l. SomeBelow (shown_of l) f) is h).1.1)), λ h. absurd (no_key (IsBelow f) h))
 
 one_more : (texts new : List (List ℕ)) (keys : List Entry) (e : Entry) → AddsFolder texts new e.key → HaveFolders texts keys → HaveFolders new (keys ++ e ∷ [])
 one_more texts new keys e adds have f = (

@@ -1,5 +1,5 @@
 -- Keys in parts: the number of indexes that the tables have for a path, and the invariants of all keys.
-use Rattle.std.specs.Prelude.{◌≡◌, ◌≢◌, ℕ, ◌+◌, ◌↔◌, ◌⊎◌, Option, MatchOption, List, [], length}
+use Rattle.std.specs.Prelude.{◌≡◌, ◌≢◌, ℕ, ◌+◌, ◌⊎◌, Option, MatchOption, List, [], length}
 use Rattle.glob_path.specs.Entries.{Entry, indexes_under}
 use Rattle.glob_path.specs.declared.trie.Anchor.TheVariants.{Start, End}
 use Rattle.glob_path.specs.Texts.{Texts}

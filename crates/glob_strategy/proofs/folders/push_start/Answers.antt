@@ -1,6 +1,6 @@
-use Rattle.std.proofs.Common.{◌≡◌, ◌⊎◌, [], refl, subst}
+use Rattle.std.proofs.Common.{◌≡◌, ◌⊎◌, [], subst}
 use Rattle.std.specs.Prelude.{Contains}
-use Rattle.glob_strategy.specs.inner.Folders.{AddsFolder, shown_of}
+use Rattle.glob_strategy.specs.inner.Folders.{shown_of}
 use Rattle.glob_strategy.proofs.lemmas.Folders.{adds_known, adds_start}
 use Rattle.glob_strategy.proofs.folders.push_start.Goals as goal
 

@@ -1,4 +1,4 @@
-use Rattle.std.proofs.Common.{◌++◌, [], map, ap, subst, sym, take, take_all, ◌∙◌, arith}
+use Rattle.std.proofs.Common.{◌++◌, map, ap, subst, sym, take_all, ◌∙◌, arith}
 use Rattle.std.proofs.lemmas.List.{append-nil}
 use Rattle.std.proofs.lemmas.List.Filters.{dedup_is}
 use Rattle.glob_path.specs.Texts.{entry_of}
