@@ -8,6 +8,7 @@ use bit_sets::IndexSet;
 use byte_nfa::StateSets;
 use glob_text::Error;
 use std::alloc::{AllocError, Global};
+use std::fmt;
 use std::marker::Model;
 
 /// Something that is matched in a [`Scratch`]: a `GlobSet` or a `GlobMatcher`.
@@ -188,5 +189,15 @@ impl Scratch {
             Some(states) => states <= room && set.indexes_needed() <= self.indexes,
             None => false,
         }
+    }
+}
+
+/// `Scratch { states: .., indexes: .. }`: the states of the largest automaton that it has room for, and the number of indexes.
+impl fmt::Debug for Scratch {
+    fn fmt<W: fmt::Write>(&self, f: &mut fmt::Formatter<W>) -> fmt::Result {
+        f.debug_struct("Scratch")
+            .field("states", &self.states)
+            .field("indexes", &self.indexes)
+            .finish()
     }
 }

@@ -13,8 +13,8 @@ use globset_glob::{Candidate, Error, Scratch, Visits};
 use set_matcher::{Caches, SetMatcher};
 use std::alloc::Global;
 use std::marker::Model;
-use std::mem;
 use std::sync::Arc;
+use std::{fmt, mem};
 
 /// A [`GlobSet`] with all the memory that a thread needs to match paths. [`Searcher::new`] allocates it: no other call allocates,
 /// and none can fail.
@@ -270,5 +270,15 @@ impl Searcher {
                 visits,
             )
             .unwrap()
+    }
+}
+
+/// `Searcher { set: GlobSet { .. }, bytes: .. }`: the set, and what [`Searcher::bytes`] returns.
+impl fmt::Debug for Searcher {
+    fn fmt<W: fmt::Write>(&self, f: &mut fmt::Formatter<W>) -> fmt::Result {
+        f.debug_struct("Searcher")
+            .field("set", &self.set)
+            .field("bytes", &self.bytes())
+            .finish()
     }
 }

@@ -590,3 +590,13 @@ impl MatcherSearcher {
             .unwrap()
     }
 }
+
+/// `MatcherSearcher { matcher: GlobMatcher { .. }, bytes: .. }`: the matcher, and what [`MatcherSearcher::bytes`] returns.
+impl fmt::Debug for MatcherSearcher {
+    fn fmt<W: fmt::Write>(&self, f: &mut fmt::Formatter<W>) -> fmt::Result {
+        f.debug_struct("MatcherSearcher")
+            .field("matcher", &self.matcher)
+            .field("bytes", &self.bytes())
+            .finish()
+    }
+}
