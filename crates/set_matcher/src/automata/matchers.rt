@@ -18,7 +18,7 @@ ghost use Rattle.set_matcher.specs.inner.ExtensionSlots.{HasSlots};
 use crate::caches::SlotCaches;
 use crate::path_part::before_extension;
 use bit_sets::{IndexSet, Visits};
-use byte_nfa::Builder;
+use byte_nfa::{Builder, StateSets};
 use glob_matching::Compiled;
 use glob_path::{PathParts, Table, TableBuilder};
 use glob_strategy::{add_tokens, new_builder};
