@@ -1,6 +1,6 @@
 //! Why sifting stops before the end.
 
-use std::alloc::{AllocError, AllocFailed};
+use std::alloc::AllocError;
 use std::fmt;
 
 /// Why [`sift`](crate::sifting::sift) stopped before the end.
@@ -38,17 +38,6 @@ impl From<AllocError> for SiftFault {
     ghost from_gives = { λ _ fault. fault ≡ OutOfMemory };
 
     fn from(_error: AllocError) -> SiftFault {
-        SiftFault::OutOfMemory
-    }
-}
-
-impl<T: Drop> From<AllocFailed<T>> for SiftFault {
-    ghost use Rattle.std.specs.Prelude.{◌≡◌};
-    ghost use Rattle.globsift.specs.declared.sifting.fault.SiftFault.TheVariants.{OutOfMemory};
-
-    ghost from_gives = { λ _ fault. fault ≡ OutOfMemory };
-
-    fn from(_error: AllocFailed<T>) -> SiftFault {
         SiftFault::OutOfMemory
     }
 }
