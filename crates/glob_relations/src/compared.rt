@@ -7,7 +7,7 @@ ghost use Rattle.ignore_pattern.specs.Patterns.{pattern_matches};
 ghost use Rattle.glob_relations.specs.Unused.{items_at};
 ghost use Rattle.glob_relations.specs.inner.Automata.{IsFor, FindsEach, numbered, under};
 
-use byte_nfa::{Builder, Nfa};
+use byte_nfa::{Builder, Nfa, shared};
 use glob_strategy::{add_tokens, new_builder};
 use globset_glob::{Glob, flat_tokens_of, options_of};
 use ignore_pattern::{IgnorePattern, add_pattern};
@@ -99,7 +99,8 @@ pub fn builder_at<T: Compared>(
     Ok(builder)
 }
 
-/// Returns an automaton that leads a path to the index of each item of a list that matches it.
+/// Returns an automaton that leads a path to the index of each item of a list that matches it. Items that begin alike share states,
+/// so that a path takes fewer steps than there are items, unless that takes too much work.
 pub fn automaton_of_list<T: Compared>(
     alloc: Global,
     options: T::Options,
@@ -109,7 +110,11 @@ pub fn automaton_of_list<T: Compared>(
 {
     let mut builder = new_builder(alloc, items.len());
     add_numbered(alloc, options, &mut builder, items, 0)?;
-    Ok(builder.finish())
+    let automaton = builder.finish();
+    match shared(alloc, &automaton)? {
+        Some(sharing) => Ok(sharing),
+        None => Ok(automaton),
+    }
 }
 
 /// Adds the items of a list to an automaton that is being built, each under the next index, from `first` on.

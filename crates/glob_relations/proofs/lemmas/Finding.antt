@@ -4,6 +4,7 @@ use Rattle.std.specs.Prelude.{◌↔◌, IsFalse, Contains, Some, slice_get}
 use Rattle.std.proofs.Math.Logic.{⊎_elim}
 use Rattle.bit_sets.specs.Indexes.{has_index}
 use Rattle.bit_sets.specs.declared.index_set.IndexSet.{IndexSet}
+use Rattle.byte_nfa.specs.Sharing.{Shares}
 use Rattle.byte_nfa.specs.Steps.{NfaValue, IsReached}
 use Rattle.glob_relations.specs.Answers.{some_match, IsCovered, IsMissed}
 use Rattle.glob_relations.specs.Domains.{IsIn}
@@ -49,6 +50,12 @@ module _ {A : Type 0} (matches : A → List ℕ → Bool) where
             let k_is : 0 + k ≡ k = omega arith in
             reaches.1 (subst (SomeMatches matches (numbered 0 ps) path) k_is (numbered_there matches path 0 k ps p at h)),
       )
+
+  pub finds_shared : (ps : List A) (old new : NfaValue) → Shares old new → FindsEach matches ps old → FindsEach matches ps new
+  finds_shared ps old new shares finds = λ k x path at bytes.
+      let one = finds k x path at bytes in
+      let same = shares.reached path k in
+      (λ h. one.0 (same.0 h), λ h. same.1 (one.1 h))
 
 module _ {A : Type 0} (matches : A → List ℕ → Bool) (ps : List A) (m : NfaValue) (domain : Domain) (path : List ℕ) (set : IndexSet)
     (finds : FindsEach matches ps m) (inside : IsIn domain path) (found : (k : ℕ) → IsTrue (has_index set k) ↔ IsReached m path k) where
