@@ -13,3 +13,4 @@ mod sharing;
 
 pub use compiled::{Compiled, DEFAULT_DFA_SIZE_LIMIT};
 pub use scratch::{NeedsScratch, Scratch};
+pub use sharing::shared;
