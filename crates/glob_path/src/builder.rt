@@ -4,11 +4,10 @@ ghost use Rattle.std.specs.Prelude.{◌≡◌, ◌<◌, ◌↔◌, IsTrue, List,
 ghost use Rattle.glob_path.specs.Entries.{entry, Entry};
 ghost use Rattle.std.specs.List.{All};
 ghost use Rattle.glob_path.specs.inner.Pairs.{entries_of, key_at, IsKept};
-ghost use Rattle.glob_path.specs.inner.Tables.{AreContents};
 
 use crate::pairs::{Pair, hash, indexes_of, sort};
-use crate::rows::{Directory, Row, directory_of, ends_of, rows_of};
-use crate::table::{Contents, Table};
+use crate::rows::{directory_of, ends_of, rows_of};
+use crate::table::{Keys, Table};
 use std::alloc::{AllocError, Global};
 use std::marker::Model;
 use std::snapshot::Snapshot;
@@ -110,7 +109,7 @@ impl TableBuilder {
 
     /// Returns the table of the entries.
     ///
-    /// The entries are sorted. The table's memory has no room for more.
+    /// Several entries are sorted, and their memory has no room for more.
     pub fn build(self) -> Result<Table, AllocError>
         ensures { IfOk result (λ table. table ≡ self) }
     {
@@ -119,54 +118,26 @@ impl TableBuilder {
             mut bytes,
             mut pairs,
         } = self;
-        let alloc = *bytes.allocator();
         if pairs.is_empty() {
             return Ok(Table::nothing(entries));
         }
-        bytes.shrink_to_fit();
-        if pairs.len() == 1 {
-            let contents = contents_of_one(alloc, bytes, &pairs)?;
-            return Table::of(alloc, contents, entries);
+        if let [pair] = pairs.as_slice() {
+            return Ok(Table::of_one(bytes, *pair, entries));
         }
+        let alloc = *bytes.allocator();
+        bytes.shrink_to_fit();
         sort(&bytes, &mut pairs)?;
         let rows = rows_of(alloc, &bytes, &pairs)?;
         let directory = directory_of(alloc, &rows)?;
         let indexes = indexes_of(alloc, &pairs)?;
         let ends = ends_of(&bytes, &rows);
-        let contents = Contents {
+        let keys = Keys {
             bytes,
             rows,
             ends,
             directory,
             indexes,
         };
-        Table::of(alloc, contents, entries)
+        Table::of_keys(alloc, keys, entries)
     }
-}
-
-/// Returns the contents of the table of a single pair, which needs no order.
-fn contents_of_one(alloc: Global, bytes: Vec<u8>, pairs: &[Pair]) -> Result<Contents, AllocError>
-    requires one { length pairs.now ≡ 1 }
-    requires kept { All (IsKept bytes.items) pairs.now }
-    ensures { IfOk result (λ c. AreContents c (entries_of bytes.items pairs.now)) }
-{
-    let pair = pairs[0];
-    let mut rows = Vec::with_capacity(alloc, 1)?;
-    rows.push(Row {
-        hash: pair.hash,
-        start: pair.start,
-        end: pair.end,
-        from: 0,
-        to: 1,
-    })?;
-    let mut indexes = Vec::with_capacity(alloc, 1)?;
-    indexes.push(pair.index)?;
-    let ends = ends_of(&bytes, &rows);
-    Ok(Contents {
-        bytes,
-        rows,
-        ends,
-        directory: Directory::new(alloc),
-        indexes,
-    })
 }

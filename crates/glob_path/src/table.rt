@@ -1,28 +1,39 @@
 //! A table of byte keys.
 
-ghost use Rattle.std.specs.Prelude.{◌≡◌, ℕ, List, ◌+◌, ◌^◌, ◌<◌, ◌≤◌, max, [], ◌↔◌, IfOk, IsTrue, length};
+ghost use Rattle.std.specs.Prelude.{◌≡◌, ℕ, List, ◌+◌, ◌^◌, ◌<◌, ◌≤◌, max, [], ◌∷◌, ◌↔◌, IfOk, IsTrue, length};
 ghost use Rattle.glob_path.specs.Entries.{Entry, indexes_under};
-ghost use Rattle.glob_path.specs.inner.Tables.{AreContents, HasContents};
+ghost use Rattle.glob_path.specs.inner.Pairs.{entries_of};
+ghost use Rattle.glob_path.specs.inner.Tables.{AreKeys, HasContents};
 
 use crate::builder::TableBuilder;
-use crate::pairs::part;
+use crate::pairs::{Pair, part};
 use crate::rows::{Directory, Ends, Row, find};
 use bit_sets::Visits;
 use std::alloc::{AllocError, Global};
 use std::marker::Model;
+use std::slice;
 use std::snapshot::Snapshot;
 
 /// Indexes under byte keys: under each key the indexes that were added with it, in the order of the additions.
 #[derive(Drop)]
 pub struct Table {
-    /// It is `None` if there are no entries. It is in a box, so that little is moved with a table.
-    contents: Option<Box<Contents>>,
+    contents: Contents,
     entries: Snapshot<TableBuilder>,
 }
 
-/// The keys of a table, each once, and the indexes under them.
+/// What a table keeps, by the number of its entries.
 #[derive(Drop)]
-pub(crate) struct Contents {
+enum Contents {
+    None,
+    /// The single entry, whose key is in the bytes. It is found without a hash or another allocation.
+    One(Vec<u8>, Pair),
+    /// Several entries. They are in a box, so that little is moved with a table.
+    Many(Box<Keys>),
+}
+
+/// The keys of several entries, each once, and the indexes under them.
+#[derive(Drop)]
+pub(crate) struct Keys {
     pub(crate) bytes: Vec<u8>,
     pub(crate) rows: Vec<Row>,
     pub(crate) ends: Ends,
@@ -39,30 +50,41 @@ impl Model for Table {
 }
 
 impl Table {
-    /// Returns the table of a builder's entries.
-    pub(crate) fn of(
-        alloc: Global,
-        contents: Contents,
-        entries: Snapshot<TableBuilder>,
-    ) -> Result<Table, AllocError>
-        requires { AreContents contents entries.value }
-        ensures { IfOk result (λ table. table ≡ entries.value) }
-    {
-        Ok(Table {
-            contents: Some(Box::new(alloc, contents)?),
-            entries,
-        })
-    }
-
     /// Returns the table of a builder that has no entries. It allocates nothing.
     pub(crate) fn nothing(entries: Snapshot<TableBuilder>) -> Table
         requires { entries.value ≡ [] }
         ensures { result ≡ [] }
     {
         Table {
-            contents: None,
+            contents: Contents::None,
             entries,
         }
+    }
+
+    /// Returns the table of a builder that has a single entry. It allocates nothing.
+    pub(crate) fn of_one(bytes: Vec<u8>, pair: Pair, entries: Snapshot<TableBuilder>) -> Table
+        requires { entries.value ≡ entries_of bytes.items (pair ∷ []) }
+        ensures { result ≡ entries.value }
+    {
+        Table {
+            contents: Contents::One(bytes, pair),
+            entries,
+        }
+    }
+
+    /// Returns the table of a builder's entries.
+    pub(crate) fn of_keys(
+        alloc: Global,
+        keys: Keys,
+        entries: Snapshot<TableBuilder>,
+    ) -> Result<Table, AllocError>
+        requires { AreKeys keys entries.value }
+        ensures { IfOk result (λ table. table ≡ entries.value) }
+    {
+        Ok(Table {
+            contents: Contents::Many(Box::new(alloc, keys)?),
+            entries,
+        })
     }
 
     /// Returns the indexes under a key in the order of the additions, or none if the table does not have the key.
@@ -77,19 +99,26 @@ impl Table {
         ensures counted { compared.old ≤ compared.new }
     {
         visits.tick();
-        let Some(contents) = &self.contents else {
-            return &[];
-        };
-        match find(
-            &contents.bytes,
-            &contents.rows,
-            &contents.ends,
-            &contents.directory,
-            key,
-            compared,
-        ) {
-            Some(row) => part(&contents.indexes, row.from, row.to),
-            None => &[],
+        match &self.contents {
+            Contents::None => &[],
+            Contents::One(bytes, pair) => {
+                compared.tick();
+                if pair.key(bytes) != key {
+                    return &[];
+                }
+                slice::from_ref(&pair.index)
+            }
+            Contents::Many(keys) => match find(
+                &keys.bytes,
+                &keys.rows,
+                &keys.ends,
+                &keys.directory,
+                key,
+                compared,
+            ) {
+                Some(row) => part(&keys.indexes, row.from, row.to),
+                None => &[],
+            },
         }
     }
 
@@ -97,6 +126,6 @@ impl Table {
     pub fn is_empty(&self) -> bool
         ensures { IsTrue result ↔ (self.now ≡ []) }
     {
-        self.contents.is_none()
+        matches!(self.contents, Contents::None)
     }
 }

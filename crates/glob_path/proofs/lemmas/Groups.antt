@@ -12,7 +12,7 @@ use Rattle.std.proofs.lemmas.List.Sorted.{ranks_by, sorted_far}
 use Rattle.glob_path.specs.Entries.{indexes_under}
 use Rattle.glob_path.specs.declared.pairs.Pair.{Pair}
 use Rattle.glob_path.specs.declared.rows.Row.{Row}
-use Rattle.glob_path.specs.inner.Pairs.{pair_key, entries_of, key_order, pair_below, IsKept}
+use Rattle.glob_path.specs.inner.Pairs.{pair_key, entries_of, key_order, pair_below}
 use Rattle.glob_path.specs.inner.Rows.{row_key, row_below, IsHashed, IsListed, HasNoRow, HasRows, key_at, IsSameKey, IsOtherKey}
 use Rattle.glob_path.proofs.lemmas.Order.{same_between}
 use Rattle.glob_path.proofs.lemmas.Under.{keys_ordered, has_key, under_none, under_part}
@@ -135,35 +135,3 @@ grouped_all bytes ps rows from at g e = record {
   sorted = g.sorted;
   few = omega (arith, g.few, g.behind, length-map ps (λ (p : Pair). p.index));
 }
-
--- ---- one pair
-
-sorted_alone : (bytes : List ℕ) (ps : List Pair) → length ps ≡ 1 → IsSortedBy (pair_below bytes) ps
-sorted_alone bytes ps one = λ k d low lt. absurd (omega arith)
-
-abbrev pub row_alone : Pair → Row
-row_alone p = record { hash = p.hash; start = p.start; end = p.end; from = 0; to = 1 }
-
-pub index_alone : (ps : List Pair) → length ps ≡ 1 → map (λ (p : Pair). p.index) ps ≡ (get_or ps 0 no_pair).index ∷ []
-index_alone [] one = absurd (omega arith)
-index_alone (p ∷ []) one = refl
-index_alone (p ∷ q ∷ ps) one = absurd (omega arith)
-
--- one pair has one row
-pub grouped_alone : (bytes : List ℕ) (ps : List Pair) → length ps ≡ 1 → All (IsKept bytes) ps
-    → HasRows bytes (row_alone (get_or ps 0 no_pair) ∷ []) (map (λ p. p.index) ps) (entries_of bytes ps)
-grouped_alone bytes ps one kept =
-    let r : Row = row_alone (get_or ps 0 no_pair) in
-    let none : Grouped bytes ps [] 0 0 = record {
-      behind = omega arith;
-      few = omega arith;
-      ended = λ e. refl;
-      same = λ k a b. absurd (omega arith);
-      apart = λ a b. absurd (omega arith);
-      listed = λ k d lt. absurd (omega arith);
-      covered = λ q h k low. absurd (omega arith);
-      hashed = λ k d lt. absurd (omega arith);
-      sorted = λ k d low lt. absurd (omega arith);
-      below = λ a k d lt. absurd (omega arith);
-    } in
-    grouped_all bytes ps (r ∷ []) 1 1 (grouped_row bytes ps [] 0 0 none (omega arith) (sorted_alone bytes ps one) (λ more. absurd (omega arith)) r refl refl refl (kept 0 no_pair (omega arith)).1) (sym one)
