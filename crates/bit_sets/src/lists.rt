@@ -111,8 +111,7 @@ pub fn put_states(states: &[u32], into: &mut StateSet)
     }
 }
 
-/// Returns how many indexes of a list, from its first on, are known to be in a set, where `from` are: it goes on up to the first
-/// that is not.
+/// Returns how many indexes at the front of a list are in a set. The first `from` are known to be.
 pub fn found_count(indexes: &[usize], from: usize, found: &IndexSet) -> usize
     requires { AreFound indexes.now from found.now }
     ensures { AreFound indexes.now result found.now }

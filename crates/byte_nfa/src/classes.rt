@@ -55,7 +55,7 @@ impl ByteClasses {
     }
 }
 
-/// Returns the class up to the last whose first byte is read as a byte of this kind is, if it is the first class of that kind.
+/// Returns the first class, up to `last`, whose bytes are read as `byte` is, or `None`. `kind` is that of the byte.
 fn class_like(
     automaton: &Nfa,
     representatives: &[u8; 256],

@@ -20,8 +20,8 @@ use std::snapshot::Snapshot;
 /// An automaton as it is run: by sets of states, or by the rows of a `lazy_dfa::Cache`. Threads can share it. Contracts see the
 /// automaton that it was made for, whose ends it finds, and the one that is run.
 ///
-/// The one that is run has an end in place of each state that decides an index: so an index that is decided takes no state any more,
-/// but for those from which it is decided again.
+/// The one that is run has an end in place of each state that decides an index. After an index is decided, a run keeps only those
+/// of its states that decide it again.
 #[derive(Drop)]
 pub struct Simulation {
     automaton: Nfa,

@@ -373,15 +373,15 @@ fn take(
     None
 }
 
-/// Returns the index that an end of an automaton with early matches tells, which has twice `half` indexes.
+/// Returns the index that is found at an end of an automaton with early matches. `half` is half the number of its indexes.
 pub fn told_by(index: usize, half: usize) -> usize
     ensures { ((index < half) × (result ≡ index)) ⊎ ((half ≤ index) × (result + half ≡ index)) }
 {
     if index < half { index } else { index - half }
 }
 
-/// Puts what the ends of the indexes in a set tell into another set, next to its contents, except ends of an index below
-/// `lowest`. There are twice `half` indexes.
+/// Puts the indexes that are found at ends into a set, next to its contents, except those at ends of an index below `lowest`.
+/// `half` is half the number of the automaton's indexes.
 pub fn tell_ends(ends: &IndexSet, half: usize, lowest: usize, into: &mut IndexSet)
     requires fits { half + half < 2 ^ 64 }
     requires room { half ≤ index_capacity into.old }

@@ -1,7 +1,7 @@
 //! `examples` is a program of several examples, each a command: programs over the libraries look like this. The first argument
 //! names the command, and the module of that name does it with the others.
 //!
-//! The runtime has its own type everywhere, since a type parameter for it doubles the proofs of the walk.
+//! Functions take `HostRuntime` itself: a type parameter would double the proofs of the walk.
 #![tactic(auto)]
 
 mod check;

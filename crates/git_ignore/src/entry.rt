@@ -29,7 +29,7 @@ impl RuleEntry {
         }
     }
 
-    /// Returns whether the rule is for folders, or for other paths.
+    /// Returns whether the rule applies to a folder, or if `is_folder` is false to another path.
     fn is_for(self, is_folder: bool) -> bool
         ensures { result ≡ is_for is_folder self }
     {
@@ -49,7 +49,7 @@ pub fn told_of(file: usize, entry: Option<RuleEntry>) -> Option<DecidingRule>
     })
 }
 
-/// Returns the last of the entries whose indexes are in a set that is for folders, or for other paths.
+/// Returns the last entry whose index is in `found` and that applies to a folder, or if `is_folder` is false to another path.
 pub fn last_entry_for(entries: &[RuleEntry], found: &IndexSet, is_folder: bool) -> Option<RuleEntry>
     ensures { result
         ≡ last_found (has_index found.now) is_folder entries.now (length entries.now) }

@@ -1,7 +1,7 @@
 //! Automata of tokens, run over paths: by rows that are known or made on demand, or stepped from a set of states to the next.
 //!
 //! [`Compiled`] holds the automaton of some tokens, and finds which of them match a path. It keeps rows between calls. A caller may
-//! keep the memory that stepping takes in a [`Scratch`]. Of texts of globs only the error that memory ran out is known here.
+//! keep the memory that stepping takes in a [`Scratch`]. Of `glob_text` it uses only the error that memory ran out.
 #![tactic(auto)]
 
 mod compiled;

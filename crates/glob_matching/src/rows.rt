@@ -1,4 +1,4 @@
-//! What automata are run by that have rows.
+//! The caches of rows of an automaton.
 
 ghost use Rattle.std.specs.Prelude.{◌≡◌, ◌+◌, ◌*◌, ◌≤◌, ◌↔◌, ◌++◌, ◌∷◌, [], ℕ, None, false, length, IsTrue, IfOk, IfSome};
 ghost use Rattle.std.specs.Arc.{arc_value};
@@ -18,8 +18,8 @@ use std::marker::Model;
 use std::snapshot::Snapshot;
 use std::sync::Arc;
 
-/// What rows are made from, and the rows that calls share which have no cache of their own. Contracts see the automaton whose
-/// ends are found.
+/// What the rows of an automaton are made from, and the caches for calls that bring none. Contracts see the automaton whose ends
+/// are found.
 #[derive(Drop)]
 pub struct RowSource {
     alloc: Global,
@@ -143,8 +143,8 @@ impl RowSource {
 
 impl RowSource {
     /// Puts the index of each end that a text leads to into a set, next to its contents. It reads the rows of the cache that was
-    /// published last, and where an entry is not known there, the rows of a kept cache. Returns `false` if
-    /// there was no such cache and the call could not make one; some of the indexes may be in the set then.
+    /// published last, and where an entry is not known there, the rows of a kept cache. Returns `false` if there was no such
+    /// cache and the call could not make one; some of the indexes may be in the set then.
     pub fn find(
         &self,
         text: &[u8],
@@ -228,11 +228,11 @@ impl RowSource {
     }
 }
 
-/// The most bytes of a searcher's caches, whatever the limit is, so that one can be made under any limit. More than 8 MB hardly
-/// changed the time of a path.
+/// The most bytes of the caches of a searcher together, and of a kept cache, under any limit. So a searcher can be made under any
+/// limit. More than 8 MB hardly changed the time of a path.
 const MOST_BYTES: usize = 1 << 23;
 
-/// An automaton with fewer bytes has no cache: then very many automata share the limit, and a text runs few globs.
+/// An automaton whose share is smaller has no cache. Then many automata share the limit, and a path runs few of them.
 pub const FEWEST_BYTES: usize = 1 << 12;
 
 /// Returns an automaton's share of `bytes`, by its number of states among those of all automata.

@@ -66,7 +66,7 @@ pub trait NeedsScratch {
 pub struct Scratch {
     states: usize,
     indexes: usize,
-    // The states that an automaton is in that is stepped. Public for the calls that match, in the crates above.
+    // The current states of an automaton while it is stepped. Public for the calls that match, in the crates above.
     #[doc(hidden)]
     pub sets: StateSets,
     // The indexes that are found, which are marked here.

@@ -79,7 +79,7 @@ pub(crate) fn rows_of(alloc: Global, bytes: &[u8], pairs: &[Pair]) -> Result<Vec
     Ok(rows)
 }
 
-/// The most rows that are compared in turn, without a hash.
+/// The most rows that are compared in turn without a hash.
 pub(crate) const FEW: usize = 8;
 
 /// Finds the row with a key, by the keys' ends and a directory. Each comparison with a row's key is counted.
@@ -221,7 +221,7 @@ pub(crate) fn ends_of(bytes: &[u8], rows: &[Row]) -> Ends
 
 /// For each bucket how many rows are in lower buckets.
 ///
-/// With no such numbers each row may be in each bucket.
+/// Without numbers there are no buckets, and a key may be in any row.
 #[derive(Drop)]
 pub(crate) struct Directory {
     pub(crate) shift: u32,
@@ -240,7 +240,7 @@ impl Directory {
         }
     }
 
-    /// Returns the rows that contain the row of a key with this hash, if there is any.
+    /// Returns the rows among which a key with this hash is, if it is there.
     #[tactic(auto, unfolding(crate::specs::inner::Starts::rows_near))]
     pub(crate) fn near<'a>(&self, rows: &'a [Row], hash: u32) -> &'a [Row]
         ensures { result.now

@@ -112,8 +112,8 @@ fn copies(alloc: Global, texts: &[&[u8]]) -> Result<Vec<Vec<u8>>, AllocError>
     Ok(copies)
 }
 
-/// Returns where a text is in the order of bytes: before all texts that begin with the folder and a `/`, among them, or after
-/// them.
+/// Compares a text with the texts that begin with the folder and a `/`: `Less` if it comes before them all, `Equal` if it is one
+/// of them, and `Greater` if it comes after them all.
 fn place(text: &[u8], folder: &[u8]) -> Ordering
     ensures { result ≡ place_of text.now (folder_start folder.now) }
 {

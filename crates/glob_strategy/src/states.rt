@@ -337,8 +337,8 @@ fn add_whole(
 /// Adds tokens to an automaton that is being built, as the tokens of a whole glob. They get an index, which a run finds where
 /// they match the path under the options.
 ///
-/// It takes time and memory linear in the tokens. Then the automaton is for the same tokens as before, although it may have more
-/// states.
+/// It takes time and memory linear in the tokens. After an error the automaton is for the same tokens as before, although it may
+/// have more states.
 pub fn add_tokens(
     alloc: Global,
     builder: &mut Builder,

@@ -45,7 +45,8 @@ use std::sync::Arc;
 ///
 /// # Errors
 ///
-/// Calls that return a [`Result`] fail only if memory runs out. [`GlobSet::clone`] and [`GlobSet::from_value`] have other errors.
+/// Calls that return a [`Result`] fail only if memory runs out. [`GlobSet::clone`] also fails if 2^63 sets share the globs, and
+/// [`GlobSet::from_value`] if the value is no array of globs.
 ///
 /// ```rust
 /// use globset::{Glob, GlobSet};
@@ -190,8 +191,9 @@ impl GlobSet {
         })
     }
 
-    /// Returns the size of the caches that the set keeps between calls, in bytes. It is 0 in a new set, and calls raise it, at
-    /// most to the limit that [`GlobSetBuilder::dfa_size_limit`] sets. Clones share this memory.
+    /// Returns for how many bytes of rows the set keeps caches between calls. It is 0 in a new set, and calls raise it, at most
+    /// to the limit that [`GlobSetBuilder::dfa_size_limit`] sets. A cache takes more memory than that if the states of a row need
+    /// it. Clones share the caches.
     ///
     /// ```rust
     /// use globset::{Glob, GlobSet};

@@ -27,11 +27,12 @@ use std::sync::Arc;
 /// Contracts see a matcher as its glob. If the glob's literals decide alone, as in `*.rs` and `src/**`, the matcher compares them
 /// with the path or a part of it. Otherwise it has an automaton for the glob. Calls make rows of the automaton as paths need
 /// them, in at most four caches that the matcher and its clones keep until they are dropped. [`GlobMatcher::kept_bytes`] returns
-/// the size of these caches. A [`MatcherSearcher`] has a cache of its own.
+/// for how many bytes of rows they have room. A [`MatcherSearcher`] has a cache of its own.
 ///
 /// # Errors
 ///
-/// Calls that return a [`Result`] fail only if memory runs out. [`GlobMatcher::clone`] has another error.
+/// Calls that return a [`Result`] fail only if memory runs out. [`GlobMatcher::clone`] also fails if 2^63 matchers share the
+/// glob.
 ///
 /// ```rust
 /// use globset::Glob;
@@ -78,9 +79,9 @@ impl GlobMatcher {
         &self.glob
     }
 
-    /// Returns the size of the caches that the matcher keeps between calls, in bytes. It is 0 in a new matcher, and where no
-    /// automaton is needed, and calls raise it, at most to the limit of [`Glob::compile_matcher_with_limit`]. Clones share this
-    /// memory.
+    /// Returns for how many bytes of rows the matcher keeps caches between calls. It is 0 in a new matcher, and where no
+    /// automaton is needed, and calls raise it, at most to the limit of [`Glob::compile_matcher_with_limit`]. A cache takes more
+    /// memory than that if the states of a row need it. Clones share the caches.
     pub fn kept_bytes(&self) -> usize {
         self.strategy.kept_bytes()
     }

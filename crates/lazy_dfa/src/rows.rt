@@ -32,13 +32,13 @@ const UNKNOWN: u32 = 0;
 /// An entry where nothing follows: a byte leads to no end, or the text's end is none.
 const DEAD: u32 = 1;
 
-/// The entry that leads to the first row. An entry to another row is as much more as its entries begin behind those of the first.
+/// The entry that leads to the first row. The entry to a row is this number plus the place where the row's entries begin.
 const FIRST: u32 = 2;
 
 /// What is added to the entries of a row that has marks: it leads without a byte to ends that say that an index is decided.
 const MARKED: u32 = 1 << 31;
 
-/// There are at most so many entries, so that an entry has room for the place of each, and at most so many rows.
+/// The most entries, and the most rows. `FIRST` plus the place of any entry has to be below `MARKED`.
 const MAX_ENTRIES: usize = (MARKED - FIRST) as usize;
 
 /// Lists have places below this, so that entries have room for those of ends.
@@ -62,7 +62,7 @@ pub struct Step {
     pub has_marks: bool,
 }
 
-/// For how much there is room.
+/// How many rows, and how many numbers of lists, a cache has room for.
 #[derive(Clone, Copy)]
 struct Room {
     rows: usize,
@@ -109,14 +109,15 @@ pub struct Rows {
     pub next: StateSet,
     /// The indexes of the ends that are found without a byte.
     pub ends: IndexSet,
-    /// The states that a byte leads to, as the pass over those before them met them.
+    /// The states that a byte leads to, in the order in which the pass found them.
     list: Vec<u32>,
     /// The list of the indexes in `ends`.
     told: Vec<u32>,
 }
 
 impl Rows {
-    /// Returns no rows, with room for all that fit `bytes` bytes, and at least for one. So many indexes may be found.
+    /// Returns no rows, with room for all that fit `bytes` bytes, and at least for one. `found` is the number of indexes that may
+    /// be found.
     pub fn new(
         alloc: Global,
         automaton: &Nfa,
@@ -329,8 +330,8 @@ impl Rows {
         }
     }
 
-    /// Returns what is added to the entries of a row, which is not 0 if the row has marks by the indexes in `ends`. If it has, their
-    /// list is kept.
+    /// Returns `MARKED` if the row has marks: if `ends` has an index that says that one is decided. Then the list of `ends` is
+    /// kept. Otherwise it returns 0. The result is added to the entries of the row.
     fn keep_marks(&mut self, automaton: &Nfa, row: usize) -> u32
         // The rows are right for the automaton, the row is one of them, and `ends` has its ends without a byte.
         requires sound { IsSound automaton.now self.old }
@@ -472,7 +473,8 @@ impl Rows {
         }
     }
 
-    /// Returns the row of the states in `list`, if it is found. Another row can be of the same states: nothing hangs on that.
+    /// Returns the row of the states in `list`, if it is found. There may be another row of the same states, which leads to the
+    /// same ends.
     fn known(&self, hash: u64) -> Option<usize>
         requires { AreListed self.now }
         ensures { IfSome result
@@ -584,8 +586,8 @@ fn room_within(bytes: usize, width: usize, states: usize, taken: usize) -> Room
     }
 }
 
-/// Makes the table of rows twice as large, as far as there is room for that, and puts each row in again, if every other place of it
-/// may be taken.
+/// If half of the places of the table of rows may be taken, makes it twice as large, as far as there is room for that, and puts
+/// each row in again.
 fn widen_if_full(table: &mut Vec<u32>, seed: usize, starts: &[u32], lists: &[u32])
     requires few { length starts.now ≤ max_entries }
     requires lists { (i : ℕ) → i < length starts.now
@@ -628,7 +630,7 @@ fn entry_at(entries: &[u32], place: usize, class: usize) -> u32
     requires { place + class < length entries.now }
     ensures { result ≡ slice_index entries.now (place + class) }
 {
-    // Where the entries of the class begin does not wait for the row.
+    // This slice does not depend on the row, so the processor can compute it earlier.
     let column = &entries[class..];
     column[place]
 }

@@ -357,7 +357,8 @@ impl SetMatcherBuilder {
     /// Adds a glob after those that were added: its text, its options, and the tokens that the text was read as. Its index is the
     /// number of globs before it.
     ///
-    /// It takes time and memory linear in the tokens. Then the builder has no globs, and as many may be added as at first.
+    /// It takes time and memory linear in the tokens. After an error the builder has no globs, and as many may be added as at
+    /// first.
     pub fn add(
         &mut self,
         text: &String,

@@ -29,7 +29,7 @@ impl Rows {
         let entry = entry_at(&self.entries, place, self.class_of[byte as usize] as usize);
         if entry >= FIRST && entry < MARKED {
             visits.tick();
-            // As a difference of places it is part of the address of the next entry.
+            // So the subtraction becomes a part of the address of the next entry.
             Some(entry as usize - FIRST as usize)
         } else {
             None
@@ -41,7 +41,7 @@ impl Rows {
         requires { self.now.class_count < max_entries }
         ensures { result < 16 }
     {
-        // What is left of the place is the row's number times an odd number.
+        // Without the factors of 2 of the width, a place is the row's number times an odd number.
         let width = self.class_count + 1;
         (place >> (width.trailing_zeros() % 64)) % REMEMBERED
     }
@@ -85,8 +85,7 @@ impl Rows {
         Some(step_of(entry))
     }
 
-    /// Puts what the row at a place has marks of into a set, if the list of what it leads to without a byte is there. Returns whether
-    /// it is.
+    /// Puts the indexes that the row at a place decides into a set, if the list of its ends is kept. Returns whether it is.
     fn tell_marks(&self, automaton: &Nfa, place: usize, found: &mut IndexSet) -> bool
         // The rows are right for the automaton, there is a row at the place, and the set has room for the indexes.
         requires sound { IsSound automaton.now self.now }

@@ -14,16 +14,16 @@ use bit_sets::{IndexSet, Visits, list_of, put_states};
 use byte_nfa::Nfa;
 use byte_nfa::stepping::{self, Led};
 
-/// When a run gave up rows, or began, and for how many bytes it gives them up the next time.
+/// The last time that a run gave up rows, which at first is its beginning, and for how many bytes it gives them up the next time.
 #[derive(Clone, Copy)]
 pub struct GivenUp {
-    /// The seed of the rows then.
+    /// The seed of the rows at that time.
     seed: usize,
     bytes: usize,
 }
 
 impl GivenUp {
-    /// Returns that a run begins by these rows.
+    /// Returns the value for a run that begins by these rows.
     pub fn new(rows: &Rows) -> GivenUp {
         GivenUp {
             seed: rows.seed,
@@ -34,8 +34,8 @@ impl GivenUp {
     /// Returns how many bytes a run reads by sets of states, of so many that are left of a text: none, unless rows were forgotten twice
     /// since it gave them up. Where most bytes need a new row, to make it takes longer than to step over states.
     ///
-    /// They are more bytes than there are states, and twice as many each time: so a text that never fits makes few rows, and one that
-    /// fits later is read by rows then.
+    /// They are more bytes than there are states, and twice as many each time. So a text whose rows never fit makes few of them,
+    /// and one whose later rows fit is read by rows again.
     fn next(&mut self, rows: &Rows, states: usize, rest: usize) -> usize
         ensures within { result ≤ rest }
         ensures long { 0 < result → states < result }

@@ -465,7 +465,7 @@ impl ExtensionSlots {
 
     /// Adds the slot of an extension that has none.
     ///
-    /// Then there are no slots.
+    /// After an error there are no slots.
     pub fn insert(
         &mut self,
         alloc: Global,
