@@ -580,10 +580,21 @@ fn room_within(bytes: usize, width: usize, states: usize, taken: usize) -> Room
         .saturating_sub(listed.saturating_add(taken).saturating_mul(number))
         .max(bytes / 4);
     // A row takes its entries, a number of `starts` and two places of the table.
+    let rows = (rest / ((width + 3) * number))
+        .min(most_rows(states))
+        .max(1);
+    // The lists of a row, of its states and of its ends, have at most as many numbers as those that are taken, and two lengths.
+    let most_listed = rows.saturating_mul(taken.saturating_add(2));
     Room {
-        rows: (rest / ((width + 3) * number)).max(1),
-        listed,
+        rows,
+        listed: listed.min(most_listed).max(states + 1),
     }
+}
+
+/// Returns how many rows an automaton of so many states has at most: one for each set of states, and as many again, since a row is
+/// made anew if it is no longer found. So the cache of a small automaton takes little memory, and is made quickly.
+fn most_rows(states: usize) -> usize {
+    if states < 32 { 2 << states } else { usize::MAX }
 }
 
 /// If half of the places of the table of rows may be taken, makes it twice as large, as far as there is room for that, and puts
