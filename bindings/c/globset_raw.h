@@ -138,8 +138,8 @@ globset_status globset_raw_matcher_new(globset_lent *glob, globset_owned *out);
 globset_status globset_raw_matcher_is_match_plain(globset_lent *matcher, const uint8_t *path, size_t path_len);
 
 /* Makes a searcher of a matcher. It shares the matcher's automaton and has a copy of the glob, so the matcher may be
- * freed. If the glob needs an automaton, it also takes two bits for each of its states, and 4 MiB for its rows, or more
- * if it has hundreds of thousands of states. GLOBSET_DONE, GLOBSET_WRONG_KIND, GLOBSET_OUT_OF_MEMORY. */
+ * freed. If the glob needs an automaton, it also takes two bits for each of its states, and up to 4 MiB for its rows, or
+ * more if it has hundreds of thousands of states. GLOBSET_DONE, GLOBSET_WRONG_KIND, GLOBSET_OUT_OF_MEMORY. */
 globset_status globset_raw_matcher_searcher_new(globset_lent *matcher, globset_owned *out);
 
 /* Whether the glob of the searcher's matcher matches the path: GLOBSET_YES or GLOBSET_NO, the same as of

@@ -51,8 +51,8 @@ impl Model for RulesSearcher {
 }
 
 impl RulesSearcher {
-    /// Returns a searcher of the rules, which shares them. It takes as much memory as an [`IgnoreScratch`], and for rows 4 MiB; more
-    /// only if the automaton has so many states that no row would fit.
+    /// Returns a searcher of the rules, which shares them. It takes as much memory as an [`IgnoreScratch`], and for rows up to
+    /// 4 MiB; more only if the automaton has so many states that no row would fit.
     ///
     /// Fails only if memory runs out or 2^63 searchers share the rules.
     pub fn new(alloc: Global, rules: &Rules) -> Result<RulesSearcher, AllocError>
