@@ -8,7 +8,7 @@ use Rattle.globset.specs.Errors.{ErrorValue, glob_or_parse_error, out_of_memory}
 use Rattle.globset.specs.SetFromValue.{globs_of_value}
 use Rattle.globset.specs.ValueErrors.{ValueErrorValue}
 use Rattle.globset.specs.SetValue.{set_globs}
-use Rattle.globsift.specs.declared.arguments.parsed.Command.{Command}
+use Rattle.globsift.specs.declared.arguments.ParsedCommand.{ParsedCommand}
 use Rattle.globsift.specs.declared.arguments.fault.CommandFault.{CommandFault}
 use Rattle.globsift.specs.declared.arguments.fault.CommandFault.TheVariants as faults
 
@@ -20,7 +20,7 @@ pub record CommandValue : Type 0 where
   pub numbered : Bool
 
 -- the command that the program holds, as contracts see it
-abbrev pub command_value : Command → CommandValue
+abbrev pub command_value : ParsedCommand → CommandValue
 command_value command = record { globs = set_globs command.set; numbered = command.numbered }
 
 -- An error as contracts see it: its texts are lists of bytes, wherever the program keeps them.

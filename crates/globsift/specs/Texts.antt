@@ -3,8 +3,8 @@ use Rattle.std.specs.Prelude.{ℕ, List, ◌++◌, codes}
 use Rattle.globset.specs.Errors.{error_text}
 use Rattle.globset.specs.ValueErrors.{value_error_text}
 use Rattle.globsift.specs.Command.{fault_value, FaultValue, unknown_option, no_glob, set_without_text, set_not_alone, not_json, glob_error, value_error}
-use Rattle.globsift.specs.declared.program.Fault.{Fault}
-use Rattle.globsift.specs.declared.program.Fault.TheVariants.{Command, Sift}
+use Rattle.globsift.specs.declared.program.ProgramFault.{ProgramFault}
+use Rattle.globsift.specs.declared.program.ProgramFault.TheVariants.{Command, Sift}
 use Rattle.globsift.specs.declared.sifting.fault.SiftFault.{SiftFault}
 use Rattle.globsift.specs.declared.sifting.fault.SiftFault.TheVariants.{Read, Write, OutOfMemory}
 
@@ -25,6 +25,6 @@ command_fault_text (glob_error error) = error_text error
 command_fault_text (value_error error) = value_error_text error
 
 -- the text of an error of the program, which comes after `globsift: ` on standard error
-abbrev pub fault_text : Fault → List ℕ
+abbrev pub fault_text : ProgramFault → List ℕ
 fault_text (Command fault) = command_fault_text (fault_value fault)
 fault_text (Sift fault) = sift_fault_text fault

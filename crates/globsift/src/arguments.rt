@@ -8,13 +8,21 @@ pub mod fault;
 mod flags;
 mod glob_arguments;
 mod json;
-pub mod parsed;
 
 use fault::CommandFault;
 use glob_arguments::GlobArguments;
+use globset::GlobSet;
 use json::command_of_set;
-use parsed::Command;
 use std::alloc::Global;
+
+/// The parsed arguments of a command line.
+#[derive(Drop)]
+pub struct ParsedCommand {
+    /// The globs, in the order of their arguments.
+    pub set: GlobSet,
+    /// Whether each line of the output starts with the indexes of the globs that match it.
+    pub numbered: bool,
+}
 
 /// Parses the arguments of a command line, without the program's name.
 ///
@@ -27,7 +35,7 @@ use std::alloc::Global;
 /// text is read after all other arguments were checked.
 ///
 /// Fails with the first error from the left.
-pub fn command(alloc: Global, arguments: &[String]) -> Result<Command, CommandFault>
+pub fn command(alloc: Global, arguments: &[String]) -> Result<ParsedCommand, CommandFault>
     ensures ok { IfOk result
         (λ command. command_of (map string_bytes arguments.now) ≡ Ok (command_value command)) }
     ensures err { IfErr result (IsFaultOf (command_of (map string_bytes arguments.now))) }
@@ -55,7 +63,7 @@ fn split_at_set(arguments: &[String]) -> Option<(&[String], &[String])>
 }
 
 /// Parses the arguments of a command line that has no `--set`.
-fn command_of_globs(alloc: Global, arguments: &[String]) -> Result<Command, CommandFault>
+fn command_of_globs(alloc: Global, arguments: &[String]) -> Result<ParsedCommand, CommandFault>
     ensures { MatchResult result
         (λ command. command_of_globs (map string_bytes arguments.now) ≡ Ok (command_value command))
         (IsFaultOf (command_of_globs (map string_bytes arguments.now))) }
@@ -65,7 +73,7 @@ fn command_of_globs(alloc: Global, arguments: &[String]) -> Result<Command, Comm
     if set.is_empty() {
         return Err(CommandFault::NoGlob);
     }
-    Ok(Command {
+    Ok(ParsedCommand {
         set,
         numbered: flags.numbered,
     })

@@ -20,7 +20,7 @@ pub fn write_matching_lines<R: Read, W: Write>(
     arguments: &[String],
     reader: &mut R,
     writer: &mut W,
-) -> Result<bool, Fault>
+) -> Result<bool, ProgramFault>
     ensures ok { IfOk result (Succeeds (map string_bytes arguments.now) (R.remaining reader.old)
         (R.remaining reader.new) (W.contents writer.old) (W.contents writer.new)) }
     ensures err { IfErr result (Fails (map string_bytes arguments.now) (R.remaining reader.old)
@@ -32,14 +32,14 @@ pub fn write_matching_lines<R: Read, W: Write>(
 
 /// The error of [`write_matching_lines`].
 #[derive(Debug, Drop)]
-pub enum Fault {
+pub enum ProgramFault {
     /// The command-line arguments are rejected.
     Command(CommandFault),
     /// [`sift`] stopped before the end.
     Sift(SiftFault),
 }
 
-impl fmt::Display for Fault {
+impl fmt::Display for ProgramFault {
     ghost use Rattle.std.specs.Prelude.{Some};
     ghost use Rattle.globsift.specs.Texts.{fault_text};
 
@@ -47,32 +47,32 @@ impl fmt::Display for Fault {
 
     fn fmt<W: fmt::Write>(&self, f: &mut fmt::Formatter<W>) -> fmt::Result {
         match self {
-            Fault::Command(fault) => fault.fmt(f),
-            Fault::Sift(fault) => fault.fmt(f),
+            ProgramFault::Command(fault) => fault.fmt(f),
+            ProgramFault::Sift(fault) => fault.fmt(f),
         }
     }
 }
 
-impl std::error::Error for Fault {}
+impl std::error::Error for ProgramFault {}
 
-impl From<CommandFault> for Fault {
+impl From<CommandFault> for ProgramFault {
     ghost use Rattle.std.specs.Prelude.{◌≡◌};
-    ghost use Rattle.globsift.specs.declared.program.Fault.TheVariants.{Command};
+    ghost use Rattle.globsift.specs.declared.program.ProgramFault.TheVariants.{Command};
 
     ghost from_gives = { λ cause fault. fault ≡ Command cause };
 
-    fn from(cause: CommandFault) -> Fault {
-        Fault::Command(cause)
+    fn from(cause: CommandFault) -> ProgramFault {
+        ProgramFault::Command(cause)
     }
 }
 
-impl From<SiftFault> for Fault {
+impl From<SiftFault> for ProgramFault {
     ghost use Rattle.std.specs.Prelude.{◌≡◌};
-    ghost use Rattle.globsift.specs.declared.program.Fault.TheVariants.{Sift};
+    ghost use Rattle.globsift.specs.declared.program.ProgramFault.TheVariants.{Sift};
 
     ghost from_gives = { λ cause fault. fault ≡ Sift cause };
 
-    fn from(cause: SiftFault) -> Fault {
-        Fault::Sift(cause)
+    fn from(cause: SiftFault) -> ProgramFault {
+        ProgramFault::Sift(cause)
     }
 }

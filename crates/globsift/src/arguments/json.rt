@@ -8,9 +8,9 @@ ghost use Rattle.globset.specs.ValueErrors.{is_memory};
 ghost use Rattle.globsift.specs.Command.{IsFaultOf, command_of_set, command_value, fault_value, glob_error};
 ghost use Rattle.globsift.specs.Command.{globs_of_json, is_dash_n, value_error};
 
+use super::ParsedCommand;
 use super::fault::CommandFault;
 use super::glob_arguments::GlobArguments;
-use super::parsed::Command;
 use globset::{Error, ErrorKind, GlobSet, ValueError, ValueErrorKind};
 use serde_json::Value;
 use std::alloc::{AllocError, Global};
@@ -21,7 +21,7 @@ pub fn command_of_set(
     alloc: Global,
     before: &[String],
     after: &[String],
-) -> Result<Command, CommandFault>
+) -> Result<ParsedCommand, CommandFault>
     ensures ok { IfOk result (λ command. command_of_set (map string_bytes before.now)
         (map string_bytes after.now) ≡ Ok (command_value command)) }
     ensures err { IfErr result
@@ -37,7 +37,7 @@ pub fn command_of_set(
     if !are_all_dash_n(others) {
         return Err(CommandFault::SetNotAlone);
     }
-    Ok(Command {
+    Ok(ParsedCommand {
         set: read_set(alloc, text.as_str())?,
         numbered: !before.is_empty() || !others.is_empty(),
     })
