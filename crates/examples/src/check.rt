@@ -8,10 +8,10 @@ mod rules;
 use crate::command::{Command, Fault, only_name};
 use crate::text_file::{Lines, TextFile};
 use findings::{Findings, RuleLine};
-use git_ignore::{RulePatterns, rule_patterns};
+use git_ignore::{RulePatterns, Rules, rule_patterns};
 use glob_relations::{Domain, unreachable_rules};
 use relations::uses;
-use rules::Rules;
+use rules::OwnerRules;
 use std::alloc::{AllocError, Global};
 use std::process::ExitCode;
 
@@ -57,7 +57,7 @@ fn is_ignore_file(name: &str) -> bool {
 /// Prints the rules of an owners file that never decide, or the pairs that overlap.
 fn check(rt: &HostRuntime, name: &str, overlaps: bool) -> Result<ExitCode, Fault> {
     let file = TextFile::read(rt, name)?;
-    let Some(rules) = Rules::read(rt, &file)? else {
+    let Some(rules) = OwnerRules::read(rt, &file)? else {
         return Ok(ExitCode::from(2));
     };
     let mut findings = Findings::new(rt.alloc(), &file);
@@ -76,7 +76,7 @@ fn check_ignore_file(rt: &HostRuntime, name: &str) -> Result<ExitCode, Fault> {
     let RulePatterns { patterns, lines } = rule_patterns(rt.alloc(), &file.bytes)?;
     let found = unreachable_rules(rt.alloc(), &patterns, false, DOMAIN, LIMIT)?;
     findings.push_unused(rt.alloc(), &lines_at(rt.alloc(), &file, &lines)?, &found)?;
-    let rules = git_ignore::Rules::new(rt.alloc(), &file.bytes)?;
+    let rules = Rules::new(rt.alloc(), &file.bytes)?;
     for line in &lines_at(rt.alloc(), &file, rules.unread_lines())? {
         let reason = "git cannot read this line";
         findings.push(rt.alloc(), *line, "never decides: ", reason)?;

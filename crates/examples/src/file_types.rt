@@ -3,10 +3,8 @@
 //! A line of the table is the name of a type, a colon, and globs that are separated by a comma and a space. Blank lines, and
 //! those that begin with `#`, are skipped. A path has a type if any glob of the type matches the last component of the path.
 
-use crate::command::{Command, Fault, only_name};
-use crate::labels::Labels;
-use crate::streams::{print, push, read_input};
-use crate::text_file::{Lines, TextFile};
+use crate::command::{Command, Fault, only_name, print, push, read_input};
+use crate::text_file::{Labels, Lines, TextFile};
 use globset::{Candidate, Glob};
 use std::alloc::{AllocError, Global};
 use std::process::ExitCode;

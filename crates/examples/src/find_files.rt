@@ -4,8 +4,7 @@ mod arguments;
 mod ignored;
 mod walk;
 
-use crate::command::{Command, Fault};
-use crate::streams::print_text;
+use crate::command::{Command, Fault, print_text};
 use arguments::Arguments;
 use std::process::ExitCode;
 use walk::Walk;
@@ -37,9 +36,9 @@ The exit status is 0 if a path was printed, 1 if none was, and 2 after an error.
 /// Executes the arguments, and returns the exit status. With `--help` it prints the help and does nothing else.
 pub fn run(rt: &HostRuntime, arguments: &[String]) -> Result<ExitCode, Fault> {
     let arguments = Arguments::read(rt.alloc(), arguments)?;
-    if arguments.flags.help {
+    if arguments.switches.help {
         Err(Fault::Help)
-    } else if arguments.flags.version {
+    } else if arguments.switches.version {
         print_text(rt, "find_files 0.4.21")
     } else {
         Walk::new(rt, &arguments)?.run(rt)

@@ -3,11 +3,10 @@
 
 pub mod walk;
 
-use crate::command::{Command, Fault, only_name};
-use crate::streams::{print, push, read_input};
+use crate::command::{Command, Fault, only_name, print, push, read_input};
 use crate::text_file::{Lines, TextFile, without_dot};
 use std::process::ExitCode;
-use walk::Walk;
+use walk::PathWalk;
 
 pub const COMMAND: Command = Command {
     name: "ignore_lines",
@@ -41,7 +40,7 @@ fn print_paths(rt: &HostRuntime, name: &str, ignore_case: bool) -> Result<ExitCo
     file.name.clear();
     let mut files = Vec::new(rt.alloc());
     files.push(file)?;
-    let mut walk = Walk::new(rt.alloc(), files, ignore_case)?;
+    let mut walk = PathWalk::new(rt.alloc(), files, ignore_case)?;
     let input = read_input(rt)?;
     let mut output = Vec::new(rt.alloc());
     for path in Lines::new(&input, b'\n') {
@@ -68,7 +67,7 @@ fn print_deciding(rt: &HostRuntime, arguments: &[String]) -> Result<ExitCode, Fa
     for name in &arguments[count..] {
         files.push(TextFile::read(rt, name.as_str())?)?;
     }
-    let mut walk = Walk::new(rt.alloc(), files, ignores_case)?;
+    let mut walk = PathWalk::new(rt.alloc(), files, ignores_case)?;
     let ends = if ends_in_nul { *b"\0\0\0" } else { *b":\t\n" };
     print_lines(rt, &mut walk, ends)
 }
@@ -77,7 +76,7 @@ fn print_deciding(rt: &HostRuntime, arguments: &[String]) -> Result<ExitCode, Fa
 /// number of a line, after the text of a line, and after a path, also in the input.
 fn print_lines(
     rt: &HostRuntime,
-    walk: &mut Walk,
+    walk: &mut PathWalk,
     [colon, tab, end]: [u8; 3],
 ) -> Result<ExitCode, Fault> {
     let input = read_input(rt)?;

@@ -9,10 +9,8 @@ mod command;
 mod file_types;
 mod find_files;
 mod ignore_lines;
-mod labels;
 mod owner_rule;
 mod owners;
-mod streams;
 mod text_file;
 
 use command::{Command, Fault};

@@ -1,10 +1,8 @@
 //! The command `owners` prints the owners of the paths of its input, as an owners file has them.
 
-use crate::command::{Command, Fault, only_name};
-use crate::labels::Labels;
+use crate::command::{Command, Fault, only_name, print, push, read_input};
 use crate::owner_rule::OwnerRule;
-use crate::streams::{print, push, read_input};
-use crate::text_file::{Lines, TextFile, without_dot};
+use crate::text_file::{Labels, Lines, TextFile, without_dot};
 use globset::Candidate;
 use std::alloc::Global;
 use std::process::ExitCode;

@@ -1,9 +1,10 @@
-//! A file whose lines a program reads, and the lines of bytes.
+//! A file whose lines a program reads, the lines of bytes, and the globs of lines, each with a label.
 
 ghost use Rattle.std.specs.Prelude.{length};
 ghost use Rattle.std.specs.Iterator.{at_most};
 
 use crate::command::{Fault, Shown};
+use globset::{Error, Glob, GlobSetBuilder, Searcher};
 use memchr::{memchr, memrchr};
 use std::alloc::Global;
 use std::fmt::Display;
@@ -100,5 +101,34 @@ impl<'a> Iterator for Lines<'a> {
         let end = memchr(self.end, rest).unwrap_or(rest.len());
         self.rest = rest.get(end + 1..).unwrap_or(&[]);
         Some(&rest[..end])
+    }
+}
+
+/// The globs of a file, and for each of them a label: what the file says of the paths that it matches.
+#[derive(Drop)]
+pub struct Labels<'t> {
+    globs: GlobSetBuilder,
+    /// By the indexes of the globs.
+    pub labels: Vec<&'t str>,
+}
+
+impl<'t> Labels<'t> {
+    /// Returns no globs.
+    pub fn new(alloc: Global) -> Labels<'t> {
+        Labels {
+            globs: GlobSetBuilder::new(alloc),
+            labels: Vec::new(alloc),
+        }
+    }
+
+    /// Adds a glob and its label.
+    pub fn push(&mut self, glob: Glob, label: &'t str) -> Result<(), Error> {
+        self.globs.push(glob)?;
+        Ok(self.labels.push(label)?)
+    }
+
+    /// Returns the globs as a set, with all the memory that they are matched with.
+    pub fn searcher(&self, alloc: Global) -> Result<Searcher, Error> {
+        Searcher::new(alloc, &self.globs.build()?)
     }
 }

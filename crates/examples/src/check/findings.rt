@@ -1,9 +1,8 @@
 //! What is found about the rules of a file, a line each.
 
 use super::relations::common;
-use super::rules::Rules;
-use crate::command::{Fault, Shown};
-use crate::streams::{print, push};
+use super::rules::OwnerRules;
+use crate::command::{Fault, Shown, print, push};
 use crate::text_file::TextFile;
 use glob_relations::{Intersection, RuleReachability};
 use std::alloc::{AllocError, Global};
@@ -67,7 +66,7 @@ impl<'a> Findings<'a> {
     }
 
     /// Adds each pair of rules that match a path in common, or may.
-    pub fn push_overlaps(&mut self, alloc: Global, rules: &Rules<'_>) -> Result<(), Fault> {
+    pub fn push_overlaps(&mut self, alloc: Global, rules: &OwnerRules<'_>) -> Result<(), Fault> {
         for (i, rule) in rules.lines.iter().enumerate() {
             for (j, later) in rules.lines.iter().enumerate().skip(i + 1) {
                 let (relation, path) = match common(alloc, rules, i, j)? {

@@ -1,6 +1,6 @@
 //! Relations of rules: which never decide, and which match a path in common.
 
-use super::rules::Rules;
+use super::rules::OwnerRules;
 use super::{DOMAIN, LIMIT};
 use glob_relations::{
     Coverage, Decides, Intersection, Reachability, RuleReachability, covering, overlap, unreachable,
@@ -10,7 +10,7 @@ use std::alloc::Global;
 
 /// Returns for each rule whether it ever decides: a path about which it does, or the indexes of the rules that match each path
 /// that it matches. None of these can be left out.
-pub fn uses(alloc: Global, rules: &Rules<'_>) -> Result<Vec<RuleReachability>, Error> {
+pub fn uses(alloc: Global, rules: &OwnerRules<'_>) -> Result<Vec<RuleReachability>, Error> {
     let told = unreachable(alloc, &rules.globs, Decides::Last, DOMAIN, LIMIT)?;
     let mut uses = Vec::new(alloc);
     for rule in 0..rules.lines.len() {
@@ -23,7 +23,7 @@ pub fn uses(alloc: Global, rules: &Rules<'_>) -> Result<Vec<RuleReachability>, E
 /// decides, so a rule decides where one of its globs does. It is not known if that is not known of a glob, and none decides.
 fn use_of(
     alloc: Global,
-    rules: &Rules<'_>,
+    rules: &OwnerRules<'_>,
     rule: usize,
     told: &[Reachability],
 ) -> Result<RuleReachability, Error> {
@@ -49,7 +49,7 @@ fn use_of(
 /// Returns those of the rules `by`, which cover a rule together, that are needed. A rule whose search reaches the limit stays.
 fn least(
     alloc: Global,
-    rules: &Rules<'_>,
+    rules: &OwnerRules<'_>,
     rule: usize,
     by: Vec<usize>,
 ) -> Result<Vec<usize>, Error> {
@@ -64,7 +64,7 @@ fn least(
 }
 
 /// Returns whether globs match each path that a rule matches, and the limit was not reached.
-fn covers(alloc: Global, rules: &Rules<'_>, rule: usize, by: &[Glob]) -> Result<bool, Error> {
+fn covers(alloc: Global, rules: &OwnerRules<'_>, rule: usize, by: &[Glob]) -> Result<bool, Error> {
     for glob in rules.globs_of(rule) {
         let told = covering(alloc, glob, by, DOMAIN, LIMIT)?;
         if !matches!(told, Coverage::Covered) {
@@ -75,12 +75,17 @@ fn covers(alloc: Global, rules: &Rules<'_>, rule: usize, by: &[Glob]) -> Result<
 }
 
 /// Returns a shortest path that both of two rules match, or that there is none, or that the limit was reached.
-pub fn common(alloc: Global, rules: &Rules<'_>, a: usize, b: usize) -> Result<Intersection, Error> {
+pub fn common(
+    alloc: Global,
+    rules: &OwnerRules<'_>,
+    a: usize,
+    b: usize,
+) -> Result<Intersection, Error> {
     let mut found = Intersection::Disjoint;
     for first in rules.globs_of(a) {
         for second in rules.globs_of(b) {
             let told = overlap(alloc, first, second, DOMAIN, LIMIT)?;
-            if rank(&told) < rank(&found) {
+            if rank_of(&told) < rank_of(&found) {
                 found = told;
             }
         }
@@ -88,11 +93,19 @@ pub fn common(alloc: Global, rules: &Rules<'_>, a: usize, b: usize) -> Result<In
     Ok(found)
 }
 
-/// Returns the rank of an answer, lower for a shorter path. That of no path is higher if it is certain.
-fn rank(told: &Intersection) -> usize {
+/// The rank of an answer, lower for a shorter path. That of no path is higher if it is certain.
+#[derive(Clone, Copy, PartialEq, Eq, PartialOrd, Ord)]
+enum Rank {
+    /// The length of the path.
+    Path(usize),
+    Unknown,
+    Disjoint,
+}
+
+fn rank_of(told: &Intersection) -> Rank {
     match told {
-        Intersection::Both(path) => path.len(),
-        Intersection::Unknown => usize::MAX - 1,
-        Intersection::Disjoint => usize::MAX,
+        Intersection::Both(path) => Rank::Path(path.len()),
+        Intersection::Unknown => Rank::Unknown,
+        Intersection::Disjoint => Rank::Disjoint,
     }
 }

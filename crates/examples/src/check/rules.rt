@@ -11,7 +11,7 @@ use std::ops::Range;
 
 /// The rules of an owners file, and all their globs, in the order of the lines. An index names a rule.
 #[derive(Drop)]
-pub struct Rules<'t> {
+pub struct OwnerRules<'t> {
     /// The line of each rule.
     pub lines: Vec<RuleLine<'t>>,
     pub globs: Vec<Glob>,
@@ -19,10 +19,10 @@ pub struct Rules<'t> {
     rule_of: Vec<usize>,
 }
 
-impl<'t> Rules<'t> {
+impl<'t> OwnerRules<'t> {
     /// Reads an owners file. Returns `None` if patterns cannot be read, whose errors were then written to standard error.
-    pub fn read(rt: &HostRuntime, file: &'t TextFile) -> Result<Option<Rules<'t>>, Fault> {
-        let mut rules = Rules {
+    pub fn read(rt: &HostRuntime, file: &'t TextFile) -> Result<Option<OwnerRules<'t>>, Fault> {
+        let mut rules = OwnerRules {
             lines: Vec::new(rt.alloc()),
             globs: Vec::new(rt.alloc()),
             rule_of: Vec::new(rt.alloc()),

@@ -7,7 +7,7 @@ use std::alloc::Global;
 
 /// The options that have no argument.
 #[derive(Clone, Copy, Default)]
-pub struct Flags {
+pub struct Switches {
     pub case_insensitive: bool,
     pub literal_separator: bool,
     pub ends_in_nul: bool,
@@ -33,7 +33,7 @@ enum Next {
 /// The arguments of a search.
 #[derive(Drop)]
 pub struct Arguments<'a> {
-    pub flags: Flags,
+    pub switches: Switches,
     /// The names of the files of globs.
     pub files: Vec<&'a str>,
     /// The names of ignore files for the directory, of which a later one takes precedence.
@@ -48,7 +48,7 @@ impl<'a> Arguments<'a> {
     /// nor a file of globs nor `--ignored`.
     pub fn read(alloc: Global, arguments: &'a [String]) -> Result<Arguments<'a>, Fault> {
         let mut read = Arguments {
-            flags: Flags::default(),
+            switches: Switches::default(),
             files: Vec::new(alloc),
             excludes: Vec::new(alloc),
             words: Vec::new(alloc),
@@ -58,9 +58,9 @@ impl<'a> Arguments<'a> {
             read.push(argument.as_str())?;
         }
         let is_complete = !matches!(read.next, Next::File | Next::Excludes);
-        let has_filter = read.has_globs() || read.flags.ignored;
+        let has_filter = read.has_globs() || read.switches.ignored;
         let is_search = is_complete && has_filter && !read.folder().is_empty();
-        if is_search || read.flags.help || read.flags.version {
+        if is_search || read.switches.help || read.switches.version {
             Ok(read)
         } else {
             Err(Fault::Usage)
@@ -85,17 +85,17 @@ impl<'a> Arguments<'a> {
         match option {
             "-f" => self.next = Next::File,
             "--excludes" => {
-                self.flags.ignored = true;
+                self.switches.ignored = true;
                 self.next = Next::Excludes;
             }
             "--" => self.next = Next::Word,
-            "-i" => self.flags.case_insensitive = true,
-            "-s" => self.flags.literal_separator = true,
-            "-0" => self.flags.ends_in_nul = true,
-            "--count" => self.flags.count = true,
-            "--ignored" => self.flags.ignored = true,
-            "-h" | "--help" => self.flags.help = true,
-            "--version" => self.flags.version = true,
+            "-i" => self.switches.case_insensitive = true,
+            "-s" => self.switches.literal_separator = true,
+            "-0" => self.switches.ends_in_nul = true,
+            "--count" => self.switches.count = true,
+            "--ignored" => self.switches.ignored = true,
+            "-h" | "--help" => self.switches.help = true,
+            "--version" => self.switches.version = true,
             _ => return Err(Fault::Usage),
         }
         Ok(())
@@ -121,11 +121,11 @@ pub fn read_globs(rt: &HostRuntime, arguments: &Arguments<'_>) -> Result<Searche
         globs.push(Glob::new(alloc, "**")?)?;
     }
     for text in arguments.words.iter().skip(1) {
-        globs.push(glob(alloc, text, arguments.flags)?)?;
+        globs.push(glob(alloc, text, arguments.switches)?)?;
     }
     for name in &arguments.files {
         let file = TextFile::read(rt, name)?;
-        push_lines(alloc, &mut globs, &file, arguments.flags)?;
+        push_lines(alloc, &mut globs, &file, arguments.switches)?;
     }
     Ok(Searcher::new(alloc, &globs.into_set()?)?)
 }
@@ -135,13 +135,13 @@ fn push_lines(
     alloc: Global,
     globs: &mut GlobSetBuilder,
     file: &TextFile,
-    flags: Flags,
+    switches: Switches,
 ) -> Result<(), Fault> {
     for (i, line) in file.lines(alloc)?.iter().enumerate() {
         if line.trim().is_empty() || line.starts_with('#') {
             continue;
         }
-        match glob(alloc, line, flags) {
+        match glob(alloc, line, switches) {
             Ok(glob) => globs.push(glob)?,
             Err(error) => return file.fail(alloc, i + 1, line.as_bytes(), error.kind()),
         }
@@ -150,9 +150,9 @@ fn push_lines(
 }
 
 /// Returns the glob of a text.
-fn glob(alloc: Global, text: &str, flags: Flags) -> Result<Glob, Error> {
+fn glob(alloc: Global, text: &str, switches: Switches) -> Result<Glob, Error> {
     GlobBuilder::new(text)
-        .case_insensitive(flags.case_insensitive)
-        .literal_separator(flags.literal_separator)
+        .case_insensitive(switches.case_insensitive)
+        .literal_separator(switches.literal_separator)
         .build(alloc)
 }

@@ -19,7 +19,7 @@ impl Ignored {
     /// Returns the state before the first directory is entered, with the ignore files that the arguments name. Fails if one of
     /// these cannot be read.
     pub fn new(rt: &HostRuntime, arguments: &Arguments<'_>) -> Result<Ignored, Fault> {
-        if !arguments.flags.ignored {
+        if !arguments.switches.ignored {
             return Ok(Ignored { stack: None });
         }
         let mut stack = IgnoreStack::new(rt.alloc());

@@ -4,7 +4,7 @@
 //! since `.` is less than `/`.
 
 use super::COMMAND;
-use super::arguments::{Arguments, Flags, read_globs};
+use super::arguments::{Arguments, Switches, read_globs};
 use super::ignored::Ignored;
 use crate::command::Fault;
 use globset::{Candidate, Searcher};
@@ -17,7 +17,7 @@ use std::process::ExitCode;
 pub struct Walk {
     globs: Searcher,
     ignored: Ignored,
-    flags: Flags,
+    switches: Switches,
     /// The paths of files to print and of directories to open, the next path last. Paths of directories end in `/`. Each path
     /// begins with that of the first directory.
     pending: Vec<String>,
@@ -37,7 +37,7 @@ impl Walk {
         let mut walk = Walk {
             globs: read_globs(rt, arguments)?,
             ignored: Ignored::new(rt, arguments)?,
-            flags: arguments.flags,
+            switches: arguments.switches,
             pending: Vec::new(rt.alloc()),
             skipped: 0,
             opened: 0,
@@ -64,7 +64,7 @@ impl Walk {
             self.visit(rt, path.as_str(), &mut output)?;
         }
         output.flush().map_err(Fault::Output)?;
-        if self.flags.count {
+        if self.switches.count {
             let (opened, closed) = (self.opened, self.left_closed);
             let _ = eprintln!(rt; "find_files: folders opened: {opened}, left closed: {closed}");
         }
@@ -101,7 +101,11 @@ impl Walk {
     /// Prints a path, which is below the first directory.
     fn print(&mut self, below: &str, output: &mut impl Write) -> Result<(), Fault> {
         self.has_printed = true;
-        let end = if self.flags.ends_in_nul { b'\0' } else { b'\n' };
+        let end = if self.switches.ends_in_nul {
+            b'\0'
+        } else {
+            b'\n'
+        };
         output.write_all(below.as_bytes()).map_err(Fault::Output)?;
         output.write_all(&[end]).map_err(Fault::Output)
     }
@@ -145,7 +149,7 @@ impl Walk {
         let candidate = Candidate::new(below);
         let is_match = self.globs.is_match(&candidate);
         let can_match_below = self.globs.can_match_below(&candidate);
-        if !is_match && !can_match_below && !self.flags.count {
+        if !is_match && !can_match_below && !self.switches.count {
             return Ok(());
         }
         let kind = match entry.file_type() {

@@ -9,25 +9,25 @@ use std::alloc::{AllocError, Global};
 ///
 /// A directory is decided, and its files are read, when the walk goes into it. For paths in the order of a walk this is once.
 #[derive(Drop)]
-pub struct Walk {
+pub struct PathWalk {
     stack: IgnoreStack,
     /// The files of all directories. Those of deeper directories come last.
     files: Vec<TextFile>,
 }
 
-impl Walk {
+impl PathWalk {
     /// Returns a walk in the top directory. Each ignore file is for its own directory, by its name. Of those of a directory, a
     /// later one takes precedence.
     pub fn new(
         alloc: Global,
         mut files: Vec<TextFile>,
         ignore_case: bool,
-    ) -> Result<Walk, AllocError> {
+    ) -> Result<PathWalk, AllocError> {
         files.sort_by_key(|file| file.folder().len())?;
         let stack = RulesBuilder::new()
             .ignore_case(ignore_case)
             .build_stack(alloc);
-        let mut walk = Walk { stack, files };
+        let mut walk = PathWalk { stack, files };
         walk.add_files()?;
         Ok(walk)
     }
