@@ -3,9 +3,9 @@
 ghost use Rattle.std.specs.Prelude.{◌≡◌, IfOk};
 ghost use Rattle.globset.specs.GlobMatches.{glob_matches};
 
-use crate::column::{Columns, Escaped, Indexes, unescaped, unescaped_text, yes_or_no};
-use crate::fault::Fault;
+use crate::column::{Columns, Escaped, IndexColumn, unescaped, unescaped_text, yes_or_no};
 use crate::relations::{covered, overlapping};
+use crate::row::RowFault;
 use globset::{
     Candidate, Error, Glob, GlobBuilder, GlobMatcher, GlobSet, GlobSetBuilder, MatcherSearcher,
     ValueError, escape,
@@ -42,9 +42,9 @@ impl Drop for Globs {
     }
 }
 
-/// A call of a set or a matcher about a path.
+/// A question to a set or a matcher about a path.
 #[derive(Clone, Copy)]
-enum Asked {
+enum Question {
     /// Whether it matches the path.
     Path,
     /// Whether it matches some path below the path, which is a directory.
@@ -65,14 +65,14 @@ impl Globs {
 
     /// Returns the result of a row's call, as columns. It leaves the columns of the expected result. Fails if the row cannot be
     /// read, or the call fails.
-    pub fn returned(&mut self, columns: &mut Columns<'_>) -> Result<String, Fault> {
+    pub fn returned(&mut self, columns: &mut Columns<'_>) -> Result<String, RowFault> {
         match columns.next()? {
             "read" => self.read(columns),
             "glob" => self.glob(columns),
             "add" => self.add(columns),
             "match" => self.is_match(columns),
-            "path" => self.path(columns, Asked::Path),
-            "below" => self.path(columns, Asked::Below),
+            "path" => self.path(columns, Question::Path),
+            "below" => self.path(columns, Question::Below),
             "equal" => self.equal(columns),
             "offset" => self.offset(columns),
             "parts" => self.parts(columns),
@@ -81,12 +81,12 @@ impl Globs {
             "array" => self.array(columns),
             "covered" => covered(self.alloc, &self.globs, columns),
             "overlap" => overlapping(self.alloc, &self.globs, columns),
-            _ => Err(Fault::Row("no row is of this kind")),
+            _ => Err(RowFault::Row("no row is of this kind")),
         }
     }
 
     /// Reads a glob and copies it. Returns `reads`, and the copy's `regex()`; or `fails`, the error's kind and its text.
-    fn read(&self, columns: &mut Columns<'_>) -> Result<String, Fault> {
+    fn read(&self, columns: &mut Columns<'_>) -> Result<String, RowFault> {
         match &read(self.alloc, columns)? {
             Ok(glob) => shown(self.alloc, &glob.clone()?),
             Err(error) => shown_error(self.alloc, error),
@@ -94,7 +94,7 @@ impl Globs {
     }
 
     /// Reads a glob, and adds it to the set. Returns `reads`, and its `regex()`; or `fails`, the error's kind and its text.
-    fn glob(&mut self, columns: &mut Columns<'_>) -> Result<String, Fault> {
+    fn glob(&mut self, columns: &mut Columns<'_>) -> Result<String, RowFault> {
         match read(self.alloc, columns)? {
             Ok(glob) => {
                 let shown = shown(self.alloc, &glob)?;
@@ -106,7 +106,7 @@ impl Globs {
     }
 
     /// Adds a glob to the set, and returns the length of the set.
-    fn add(&mut self, columns: &mut Columns<'_>) -> Result<String, Fault> {
+    fn add(&mut self, columns: &mut Columns<'_>) -> Result<String, RowFault> {
         self.push(read(self.alloc, columns)??)?;
         Ok(format!(in self.alloc; "{}", self.set.len())?)
     }
@@ -125,10 +125,10 @@ impl Globs {
     }
 
     /// Returns whether a glob matches a path, by its matcher and by a set of it alone, each of them under each limit.
-    fn is_match(&self, columns: &mut Columns<'_>) -> Result<String, Fault> {
+    fn is_match(&self, columns: &mut Columns<'_>) -> Result<String, RowFault> {
         let mut alone = Globs::new(self.alloc);
         alone.push(read(self.alloc, columns)??)?;
-        let answers = alone.path(columns, Asked::Path)?;
+        let answers = alone.path(columns, Question::Path)?;
         let answer = if answers.as_str() == "0\tyes\t0" {
             "yes"
         } else if answers.as_str() == "-\tno\t-" {
@@ -145,15 +145,15 @@ impl Globs {
     ///
     /// About a path a set answers which indexes it returns, and whether all globs match; about a directory, whether it matches
     /// some path below it.
-    fn path(&self, columns: &mut Columns<'_>, asked: Asked) -> Result<String, Fault> {
+    fn path(&self, columns: &mut Columns<'_>, question: Question) -> Result<String, RowFault> {
         let bytes = unescaped(self.alloc, columns.next()?)?;
-        self.answers(&Candidate::from_bytes(&bytes), asked)
+        self.answers(&Candidate::from_bytes(&bytes), question)
     }
 
-    fn answers(&self, path: &Candidate<'_>, asked: Asked) -> Result<String, Fault> {
-        let first = self.answer(&self.set, None, path, asked)?;
-        let few_rows = self.answer(&self.few_rows, Some(FEW_ROWS), path, asked)?;
-        let no_rows = self.answer(&self.no_rows, Some(NO_ROWS), path, asked)?;
+    fn answers(&self, path: &Candidate<'_>, question: Question) -> Result<String, RowFault> {
+        let first = self.answer(&self.set, None, path, question)?;
+        let few_rows = self.answer(&self.few_rows, Some(FEW_ROWS), path, question)?;
+        let no_rows = self.answer(&self.no_rows, Some(NO_ROWS), path, question)?;
         if few_rows == first && no_rows == first {
             return Ok(first);
         }
@@ -166,11 +166,11 @@ impl Globs {
         set: &GlobSet,
         limit: Option<usize>,
         path: &Candidate<'_>,
-        asked: Asked,
-    ) -> Result<String, Fault> {
-        let of_set = answer_of_set(self.alloc, set, path, asked)?;
-        let of_each = self.matching(limit, path, asked)?;
-        Ok(format!(in self.alloc; "{of_set}\t{}", Indexes(&of_each))?)
+        question: Question,
+    ) -> Result<String, RowFault> {
+        let of_set = answer_of_set(self.alloc, set, path, question)?;
+        let of_each = self.matching(limit, path, question)?;
+        Ok(format!(in self.alloc; "{of_set}\t{}", IndexColumn(&of_each))?)
     }
 
     /// Returns the indexes of the globs whose own matchers say yes.
@@ -178,11 +178,11 @@ impl Globs {
         &self,
         limit: Option<usize>,
         path: &Candidate<'_>,
-        asked: Asked,
+        question: Question,
     ) -> Result<Vec<usize>, Error> {
         let mut indexes = Vec::new(self.alloc);
         for (i, glob) in self.globs.iter().enumerate() {
-            if ask_under(self.alloc, limit, glob, path, asked)? {
+            if ask_under(self.alloc, limit, glob, path, question)? {
                 indexes.push(i)?;
             }
         }
@@ -190,14 +190,14 @@ impl Globs {
     }
 
     /// Returns whether two globs are equal, or the errors of two texts that are no globs. Equal globs must hash equally.
-    fn equal(&self, columns: &mut Columns<'_>) -> Result<String, Fault> {
+    fn equal(&self, columns: &mut Columns<'_>) -> Result<String, RowFault> {
         let one = read(self.alloc, columns)?;
         let other = read(self.alloc, columns)?;
         Ok(String::from_str(self.alloc, compared(&one, &other))?)
     }
 
     /// Returns the offset of the error of a text, or `-` if the text is a glob. The error's copy must have the same offset.
-    fn offset(&self, columns: &mut Columns<'_>) -> Result<String, Fault> {
+    fn offset(&self, columns: &mut Columns<'_>) -> Result<String, RowFault> {
         let Err(error) = read(self.alloc, columns)? else {
             return Ok(String::from_str(self.alloc, "-")?);
         };
@@ -210,7 +210,7 @@ impl Globs {
     }
 
     /// Returns the basename and the extension of a path.
-    fn parts(&self, columns: &mut Columns<'_>) -> Result<String, Fault> {
+    fn parts(&self, columns: &mut Columns<'_>) -> Result<String, RowFault> {
         let bytes = unescaped(self.alloc, columns.next()?)?;
         let path = Candidate::from_bytes(&bytes);
         let (basename, ext) = (Escaped(path.basename()), Escaped(path.ext()));
@@ -218,7 +218,7 @@ impl Globs {
     }
 
     /// Returns the escaped text.
-    fn escape(&self, columns: &mut Columns<'_>) -> Result<String, Fault> {
+    fn escape(&self, columns: &mut Columns<'_>) -> Result<String, RowFault> {
         let text = unescaped_text(self.alloc, columns.next()?)?;
         let glob = escape(self.alloc, text.as_str())?;
         Ok(format!(in self.alloc; "{}", Escaped(glob.as_bytes()))?)
@@ -226,7 +226,7 @@ impl Globs {
 
     /// Reads a glob from a JSON text. Returns `reads`, the glob and the JSON text that is written of it; or `fails` and the
     /// error.
-    fn value(&self, columns: &mut Columns<'_>) -> Result<String, Fault> {
+    fn value(&self, columns: &mut Columns<'_>) -> Result<String, RowFault> {
         match &Glob::from_value(self.alloc, &json(self.alloc, columns)?) {
             Ok(glob) => written(self.alloc, glob, &glob.to_value()?),
             Err(error) => shown_value_error(self.alloc, error),
@@ -234,7 +234,7 @@ impl Globs {
     }
 
     /// Reads a set from a JSON text, instead of the set. Returns `reads` and its length; or `fails`, the index and the error.
-    fn array(&mut self, columns: &mut Columns<'_>) -> Result<String, Fault> {
+    fn array(&mut self, columns: &mut Columns<'_>) -> Result<String, RowFault> {
         let value = json(self.alloc, columns)?;
         match GlobSet::from_value(self.alloc, &value) {
             Ok(set) => self.set = set,
@@ -264,9 +264,9 @@ fn answer_of_set(
     alloc: Global,
     set: &GlobSet,
     path: &Candidate<'_>,
-    asked: Asked,
-) -> Result<String, Fault> {
-    if let Asked::Below = asked {
+    question: Question,
+) -> Result<String, RowFault> {
+    if let Question::Below = question {
         let below = yes_or_no(set.can_match_below_candidate(path)?);
         return Ok(String::from_str(alloc, below)?);
     }
@@ -276,7 +276,7 @@ fn answer_of_set(
     if some == indexes.is_empty() {
         return Ok(String::from_str(alloc, "is_match and matches differ")?);
     }
-    Ok(format!(in alloc; "{}\t{all}", Indexes(&indexes))?)
+    Ok(format!(in alloc; "{}\t{all}", IndexColumn(&indexes))?)
 }
 
 /// Returns the answer of a glob's matcher, under the default limit or another, about a path.
@@ -285,24 +285,30 @@ fn ask_under(
     limit: Option<usize>,
     glob: &Glob,
     path: &Candidate<'_>,
-    asked: Asked,
+    question: Question,
 ) -> Result<bool, Error>
-    ensures path { asked ≡ Asked.Path → IfOk result (λ yes. yes ≡ glob_matches glob.now path.now) }
+    ensures path { question ≡ Question.Path
+        → IfOk result (λ yes. yes ≡ glob_matches glob.now path.now) }
 {
     match limit {
-        Some(NO_ROWS) => ask(&glob.compile_matcher_with_limit(NO_ROWS)?, path, asked),
-        Some(limit) => search(alloc, &glob.compile_matcher_with_limit(limit)?, path, asked),
-        None => ask(&glob.compile_matcher()?, path, asked),
+        Some(NO_ROWS) => ask(&glob.compile_matcher_with_limit(NO_ROWS)?, path, question),
+        Some(limit) => search(
+            alloc,
+            &glob.compile_matcher_with_limit(limit)?,
+            path,
+            question,
+        ),
+        None => ask(&glob.compile_matcher()?, path, question),
     }
 }
 
-fn ask(matcher: &GlobMatcher, path: &Candidate<'_>, asked: Asked) -> Result<bool, Error>
-    ensures path { asked ≡ Asked.Path
+fn ask(matcher: &GlobMatcher, path: &Candidate<'_>, question: Question) -> Result<bool, Error>
+    ensures path { question ≡ Question.Path
         → IfOk result (λ yes. yes ≡ glob_matches matcher.now path.now) }
 {
-    match asked {
-        Asked::Path => matcher.is_match_candidate(path),
-        Asked::Below => matcher.can_match_below_candidate(path),
+    match question {
+        Question::Path => matcher.is_match_candidate(path),
+        Question::Below => matcher.can_match_below_candidate(path),
     }
 }
 
@@ -312,15 +318,15 @@ fn search(
     alloc: Global,
     matcher: &GlobMatcher,
     path: &Candidate<'_>,
-    asked: Asked,
+    question: Question,
 ) -> Result<bool, Error>
-    ensures path { asked ≡ Asked.Path
+    ensures path { question ≡ Question.Path
         → IfOk result (λ yes. yes ≡ glob_matches matcher.now path.now) }
 {
     let mut searcher = MatcherSearcher::new(alloc, matcher)?;
-    Ok(match asked {
-        Asked::Path => searcher.is_match(path),
-        Asked::Below => searcher.can_match_below(path),
+    Ok(match question {
+        Question::Path => searcher.is_match(path),
+        Question::Below => searcher.can_match_below(path),
     })
 }
 
@@ -353,12 +359,12 @@ fn hash_of(glob: &Glob) -> u64 {
 }
 
 /// Returns `reads`, and the text of `regex()`.
-fn shown(alloc: Global, glob: &Glob) -> Result<String, Fault> {
+fn shown(alloc: Global, glob: &Glob) -> Result<String, RowFault> {
     Ok(format!(in alloc; "reads\t{}", Escaped(glob.regex().as_bytes()))?)
 }
 
 /// Returns `fails`, the kind and the text.
-fn shown_error(alloc: Global, error: &Error) -> Result<String, Fault> {
+fn shown_error(alloc: Global, error: &Error) -> Result<String, RowFault> {
     let kind = format!(in alloc; "{:?}", error.kind())?;
     let text = format!(in alloc; "{error}")?;
     let (kind, text) = (Escaped(kind.as_bytes()), Escaped(text.as_bytes()));
@@ -366,7 +372,7 @@ fn shown_error(alloc: Global, error: &Error) -> Result<String, Fault> {
 }
 
 /// Returns `fails`, the index or `-`, and the text.
-fn shown_value_error(alloc: Global, error: &ValueError) -> Result<String, Fault> {
+fn shown_value_error(alloc: Global, error: &ValueError) -> Result<String, RowFault> {
     let text = format!(in alloc; "{error}")?;
     let text = Escaped(text.as_bytes());
     match error.index() {
@@ -376,7 +382,7 @@ fn shown_value_error(alloc: Global, error: &ValueError) -> Result<String, Fault>
 }
 
 /// Returns `reads`, the glob and the JSON text that was written of it, if the glob is read back from this.
-fn written(alloc: Global, glob: &Glob, value: &Value) -> Result<String, Fault> {
+fn written(alloc: Global, glob: &Glob, value: &Value) -> Result<String, RowFault> {
     if Glob::from_value(alloc, value)? != *glob {
         return Ok(String::from_str(alloc, "another glob is read back")?);
     }
@@ -386,10 +392,10 @@ fn written(alloc: Global, glob: &Glob, value: &Value) -> Result<String, Fault> {
 }
 
 /// Returns the JSON value of the next column.
-fn json(alloc: Global, columns: &mut Columns<'_>) -> Result<Value, Fault> {
+fn json(alloc: Global, columns: &mut Columns<'_>) -> Result<Value, RowFault> {
     match Value::from_str(alloc, unescaped_text(alloc, columns.next()?)?.as_str()) {
         Ok(value) => Ok(value),
-        Err(_) => Err(Fault::Row("a column is not JSON")),
+        Err(_) => Err(RowFault::Row("a column is not JSON")),
     }
 }
 
@@ -398,11 +404,11 @@ fn json(alloc: Global, columns: &mut Columns<'_>) -> Result<Value, Fault> {
 /// The options are the letters of those that differ from the default, or `-`: `i` is `case_insensitive`, `s`
 /// `literal_separator`, `e` `empty_alternates`, `u` `allow_unclosed_class`, `w` `whole_character`, and `b` turns
 /// `backslash_escape` off.
-fn read(alloc: Global, columns: &mut Columns<'_>) -> Result<Result<Glob, Error>, Fault> {
+fn read(alloc: Global, columns: &mut Columns<'_>) -> Result<Result<Glob, Error>, RowFault> {
     let options = columns.next()?;
     let are_known = options.chars().all(|c| "iseubw".contains(c));
     if options != "-" && (options.is_empty() || !are_known) {
-        return Err(Fault::Row("an option is unknown"));
+        return Err(RowFault::Row("an option is unknown"));
     }
     let text = unescaped_text(alloc, columns.next()?)?;
     Ok(

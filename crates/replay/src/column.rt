@@ -4,7 +4,7 @@ ghost use Rattle.std.specs.Prelude.{◌≡◌, IfOk};
 ghost use Rattle.std.specs.Str.{chars};
 ghost use Rattle.bstr.specs.Escape.{unescaped};
 
-use crate::fault::Fault;
+use crate::row::RowFault;
 use bstr::{ByteSlice, ByteVec};
 use std::alloc::Global;
 use std::fmt::{self, Display};
@@ -17,9 +17,9 @@ pub struct Columns<'a> {
 
 impl<'a> Columns<'a> {
     /// Returns the next column, as it is written, or an error if there is none.
-    pub fn next(&mut self) -> Result<&'a str, Fault> {
+    pub fn next(&mut self) -> Result<&'a str, RowFault> {
         let Some(rest) = self.rest else {
-            return Err(Fault::Row("a column is missing"));
+            return Err(RowFault::Row("a column is missing"));
         };
         match rest.split_once('\t') {
             Some((column, after)) => {
@@ -36,21 +36,21 @@ impl<'a> Columns<'a> {
 
 /// Returns the bytes that a column stands for. Each byte string has a single spelling, and a column with another spelling is an
 /// error.
-pub fn unescaped(alloc: Global, column: &str) -> Result<Vec<u8>, Fault>
+pub fn unescaped(alloc: Global, column: &str) -> Result<Vec<u8>, RowFault>
     ensures { IfOk result (λ bytes. bytes.items ≡ unescaped (chars column.now)) }
 {
     let bytes = Vec::unescape_bytes(alloc, column)?;
     if format!(in alloc; "{}", Escaped(&bytes))?.as_str() != column {
-        return Err(Fault::Row("a column has bytes that are not written as they should be"));
+        return Err(RowFault::Row("a column has bytes that are not written as they should be"));
     }
     Ok(bytes)
 }
 
 /// Returns the text that a column stands for, or an error as [`unescaped`] does, or if the bytes are not UTF-8.
-pub fn unescaped_text(alloc: Global, column: &str) -> Result<String, Fault> {
+pub fn unescaped_text(alloc: Global, column: &str) -> Result<String, RowFault> {
     match String::from_utf8(unescaped(alloc, column)?) {
         Ok(text) => Ok(text),
-        Err(_) => Err(Fault::Row("a column is not UTF-8")),
+        Err(_) => Err(RowFault::Row("a column is not UTF-8")),
     }
 }
 
@@ -73,9 +73,9 @@ impl Display for Escaped<'_> {
 
 /// Indexes that are printed as a column: separated by commas, or `-` if there are none.
 #[derive(Clone, Copy)]
-pub struct Indexes<'a>(pub &'a [usize]);
+pub struct IndexColumn<'a>(pub &'a [usize]);
 
-impl Display for Indexes<'_> {
+impl Display for IndexColumn<'_> {
     fn fmt<W: fmt::Write>(&self, f: &mut fmt::Formatter<W>) -> fmt::Result {
         if self.0.is_empty() {
             return f.write_str("-");

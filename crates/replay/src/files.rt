@@ -3,7 +3,7 @@
 ghost use Rattle.std.specs.Prelude.{◌<◌, length};
 ghost use Rattle.std.specs.List.{All};
 
-use crate::report::{Failure, Report, replay};
+use crate::report::{FailedRow, Report, replay};
 use std::process::ExitCode;
 use std::{env, fs, io};
 
@@ -43,7 +43,7 @@ fn write_failures(
     rt: &HostRuntime,
     file: &str,
     lines: &[&str],
-    failures: &[Failure],
+    failures: &[FailedRow],
 ) -> io::Result<()>
     requires { All (λ f. f.index < length lines.now) failures.now }
 {

@@ -10,7 +10,6 @@
 
 mod case;
 mod column;
-mod fault;
 mod files;
 mod measure;
 mod relations;

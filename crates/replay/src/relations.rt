@@ -6,7 +6,7 @@ ghost use Rattle.glob_relations.specs.Answers.{AreDisjoint, IsCovered, IsMissed,
 ghost use Rattle.glob_relations.specs.Shortest.{IsShortest};
 
 use crate::column::Columns;
-use crate::fault::Fault;
+use crate::row::RowFault;
 use glob_relations::{Coverage, Domain, Intersection, covering, overlap};
 use globset::{Error, Glob};
 use std::alloc::Global;
@@ -16,7 +16,11 @@ const LIMIT: usize = 100_000;
 
 /// Returns whether the other globs of a case cover the glob of an index: `yes`; or `no`, and the length of a shortest path that
 /// they miss.
-pub fn covered(alloc: Global, globs: &[Glob], columns: &mut Columns<'_>) -> Result<String, Fault> {
+pub fn covered(
+    alloc: Global,
+    globs: &[Glob],
+    columns: &mut Columns<'_>,
+) -> Result<String, RowFault> {
     let domain = read_domain(columns)?;
     let (index, glob) = read_glob(globs, columns)?;
     let others = others_than(alloc, globs, index)?;
@@ -31,7 +35,7 @@ pub fn overlapping(
     alloc: Global,
     globs: &[Glob],
     columns: &mut Columns<'_>,
-) -> Result<String, Fault> {
+) -> Result<String, RowFault> {
     let domain = read_domain(columns)?;
     let (_, a) = read_glob(globs, columns)?;
     let (_, b) = read_glob(globs, columns)?;
@@ -47,7 +51,7 @@ fn missed(
     glob: &Glob,
     others: &[Glob],
     domain: Domain,
-) -> Result<Option<Vec<u8>>, Fault>
+) -> Result<Option<Vec<u8>>, RowFault>
     ensures { IfOk result
         (λ found. MatchOption found
         (IsCovered glob_matches glob.now others.now domain)
@@ -56,12 +60,12 @@ fn missed(
     match covering(alloc, glob, others, domain, LIMIT)? {
         Coverage::Covered => Ok(None),
         Coverage::Not(path) => Ok(Some(path)),
-        Coverage::Unknown => Err(Fault::Row("the question needs too many rows")),
+        Coverage::Unknown => Err(RowFault::Row("the question needs too many rows")),
     }
 }
 
 /// Returns a shortest path that two globs match, or `None` if they are disjoint.
-fn shared(alloc: Global, a: &Glob, b: &Glob, domain: Domain) -> Result<Option<Vec<u8>>, Fault>
+fn shared(alloc: Global, a: &Glob, b: &Glob, domain: Domain) -> Result<Option<Vec<u8>>, RowFault>
     ensures { IfOk result
         (λ found. MatchOption found
         (AreDisjoint a.now b.now domain)
@@ -70,27 +74,30 @@ fn shared(alloc: Global, a: &Glob, b: &Glob, domain: Domain) -> Result<Option<Ve
     match overlap(alloc, a, b, domain, LIMIT)? {
         Intersection::Disjoint => Ok(None),
         Intersection::Both(path) => Ok(Some(path)),
-        Intersection::Unknown => Err(Fault::Row("the question needs too many rows")),
+        Intersection::Unknown => Err(RowFault::Row("the question needs too many rows")),
     }
 }
 
 /// Returns the domain of the next column: `all` for all paths, or `relative`.
-fn read_domain(columns: &mut Columns<'_>) -> Result<Domain, Fault> {
+fn read_domain(columns: &mut Columns<'_>) -> Result<Domain, RowFault> {
     match columns.next()? {
         "all" => Ok(Domain::AllPaths),
         "relative" => Ok(Domain::RelativePaths),
-        _ => Err(Fault::Row("no domain has this name")),
+        _ => Err(RowFault::Row("no domain has this name")),
     }
 }
 
 /// Returns the index of the next column, and the glob that has it.
-fn read_glob<'g>(globs: &'g [Glob], columns: &mut Columns<'_>) -> Result<(usize, &'g Glob), Fault> {
+fn read_glob<'g>(
+    globs: &'g [Glob],
+    columns: &mut Columns<'_>,
+) -> Result<(usize, &'g Glob), RowFault> {
     let Ok(index) = columns.next()?.parse::<usize>() else {
-        return Err(Fault::Row("an index is not a number"));
+        return Err(RowFault::Row("an index is not a number"));
     };
     match globs.get(index) {
         Some(glob) => Ok((index, glob)),
-        None => Err(Fault::Row("no glob has this index")),
+        None => Err(RowFault::Row("no glob has this index")),
     }
 }
 

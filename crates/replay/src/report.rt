@@ -10,7 +10,7 @@ use std::alloc::{AllocError, Global};
 
 /// The index of a line whose row failed, and the actual result.
 #[derive(Drop)]
-pub struct Failure {
+pub struct FailedRow {
     pub index: usize,
     pub returned: String,
 }
@@ -19,7 +19,7 @@ pub struct Failure {
 #[derive(Drop)]
 pub struct Report {
     pub passed: usize,
-    pub failures: Vec<Failure>,
+    pub failures: Vec<FailedRow>,
 }
 
 /// Replays the rows of a file: the lines that are neither empty nor a comment. An empty line ends a case.
@@ -91,7 +91,7 @@ impl Report {
     {
         match returned {
             None => self.passed += 1,
-            Some(returned) => self.failures.push(Failure { index, returned })?,
+            Some(returned) => self.failures.push(FailedRow { index, returned })?,
         }
         Ok(())
     }

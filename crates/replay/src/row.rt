@@ -1,11 +1,36 @@
-//! Whether a row passes.
+//! Whether a row passes, and why it cannot be replayed.
 
 ghost use Rattle.std.specs.Prelude.{◌≡◌, ◌↔◌, IsNone, IfSome, string_bytes};
 
 use crate::case::Globs;
 use crate::column::Columns;
-use crate::fault::Fault;
+use globset::ValueError;
 use std::alloc::{AllocError, Global};
+use std::fmt::{self, Display};
+
+/// Why a row cannot be replayed.
+#[derive(Drop)]
+pub enum RowFault {
+    /// The row is not written as it should be.
+    Row(&'static str),
+    /// A call that should succeed failed, or memory ran out.
+    Call(ValueError),
+}
+
+impl Display for RowFault {
+    fn fmt<W: fmt::Write>(&self, f: &mut fmt::Formatter<W>) -> fmt::Result {
+        match self {
+            RowFault::Row(text) => f.write_str(text),
+            RowFault::Call(error) => error.fmt(f),
+        }
+    }
+}
+
+impl<E: Into<ValueError>> From<E> for RowFault {
+    fn from(error: E) -> RowFault {
+        RowFault::Call(error.into())
+    }
+}
 
 /// Replays a row. Returns the actual result if it differs from the row's, and otherwise `None`.
 pub fn replay(alloc: Global, globs: &mut Globs, row: &str) -> Result<Option<String>, AllocError> {
@@ -15,7 +40,7 @@ pub fn replay(alloc: Global, globs: &mut Globs, row: &str) -> Result<Option<Stri
     }
 }
 
-fn compared(alloc: Global, globs: &mut Globs, row: &str) -> Result<Option<String>, Fault> {
+fn compared(alloc: Global, globs: &mut Globs, row: &str) -> Result<Option<String>, RowFault> {
     let row = expanded(alloc, row)?;
     let mut columns = Columns {
         rest: Some(row.as_str()),
@@ -23,7 +48,7 @@ fn compared(alloc: Global, globs: &mut Globs, row: &str) -> Result<Option<String
     let returned = globs.returned(&mut columns)?;
     match columns.rest {
         Some(want) => Ok(unless_equal(returned, want)),
-        None => Err(Fault::Row("a column is missing")),
+        None => Err(RowFault::Row("a column is missing")),
     }
 }
 
@@ -41,7 +66,7 @@ fn unless_equal(returned: String, want: &str) -> Option<String>
 
 /// Returns the row. Where its first column is `repeat`, returns the columns after it, with each `«COUNT TEXT»` in them replaced
 /// by as many copies of TEXT.
-fn expanded(alloc: Global, row: &str) -> Result<String, Fault> {
+fn expanded(alloc: Global, row: &str) -> Result<String, RowFault> {
     let mut out = String::new(alloc);
     let Some(short) = row.strip_prefix("repeat\t") else {
         out.push_str(row)?;
@@ -51,7 +76,7 @@ fn expanded(alloc: Global, row: &str) -> Result<String, Fault> {
     out.push_str(pieces.next().unwrap_or(""))?;
     for piece in pieces {
         if !push_piece(&mut out, piece)? {
-            return Err(Fault::Row("a repetition is not of the form «COUNT TEXT»"));
+            return Err(RowFault::Row("a repetition is not of the form «COUNT TEXT»"));
         }
     }
     Ok(out)

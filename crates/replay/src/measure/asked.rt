@@ -26,12 +26,12 @@ impl Asked for GlobSet {
 
 /// `GlobSet::matches_candidate_into`, with the same vector for all paths.
 #[derive(Drop)]
-pub struct Indexes {
+pub struct MatchesInto {
     pub set: GlobSet,
     pub into: Vec<usize>,
 }
 
-impl Asked for Indexes {
+impl Asked for MatchesInto {
     fn ask(&mut self, path: &str) -> Result<usize, Error> {
         self.set
             .matches_candidate_into(&Candidate::new(path), &mut self.into)?;

@@ -1,6 +1,6 @@
 //! The calls by their names.
 
-use crate::measure::asked::{Asked, Indexes, add_piece, add_rounds, ask_all};
+use crate::measure::asked::{Asked, MatchesInto, add_piece, add_rounds, ask_all};
 use crate::measure::input::GlobText;
 use crate::measure::made::{AskedSets, Making, Searchers, Sets, add_making, add_reading, read};
 use crate::measure::measured::{Limits, Measured};
@@ -30,7 +30,7 @@ impl Job<'_> {
             "matches" => {
                 let set = self.set()?;
                 let into = Vec::new(self.rt.alloc());
-                self.ask(call, Indexes { set, into })
+                self.ask(call, MatchesInto { set, into })
             }
             "matcher" => self.ask(call, self.matchers()?),
             "searcher" => self.ask(call, Searcher::new(self.rt.alloc(), &self.set()?)?),

@@ -6,7 +6,7 @@ use std::alloc::Global;
 
 /// The options that a glob is read under.
 #[derive(Clone, Copy, Default)]
-pub struct Options {
+pub struct GlobOptions {
     case_insensitive: bool,
     literal_separator: bool,
     empty_alternates: bool,
@@ -14,7 +14,7 @@ pub struct Options {
     no_backslash_escape: bool,
 }
 
-impl Options {
+impl GlobOptions {
     /// Changes the option that a flag names, as `globsift` does.
     fn set(&mut self, flag: &str) -> Result<()> {
         match flag {
@@ -33,7 +33,7 @@ impl Options {
 #[derive(Clone, Copy)]
 pub struct GlobText<'a> {
     text: &'a str,
-    options: Options,
+    options: GlobOptions,
 }
 
 impl GlobText<'_> {
@@ -61,7 +61,7 @@ impl<'a> Input<'a> {
     pub fn parse(alloc: Global, text: &'a str) -> Result<Input<'a>> {
         let mut globs = Vec::new(alloc);
         let mut paths = Vec::new(alloc);
-        let mut options = Options::default();
+        let mut options = GlobOptions::default();
         let mut are_paths = false;
         for line in text.lines() {
             if are_paths {
