@@ -8,7 +8,6 @@ pub mod error;
 pub mod globs;
 pub mod ignored;
 pub mod lent;
-pub mod making;
 pub mod object;
 pub mod options;
 pub mod owned;

@@ -7,9 +7,8 @@ ghost use Rattle.c_objects.specs.Statuses.{IsOneOf};
 
 use c_objects::globs::copy_of;
 use c_objects::lent::Lent;
-use c_objects::making::hand_out;
 use c_objects::object::Object;
-use c_objects::owned::Owned;
+use c_objects::owned::{Owned, hand_out};
 use c_objects::status::{DONE, OUT_OF_MEMORY, Status, WRONG_KIND};
 use globset::{GlobSet, GlobSetBuilder};
 use std::alloc::Global;

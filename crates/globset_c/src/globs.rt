@@ -14,9 +14,8 @@ ghost use Rattle.glob_text.specs.Escape.{escaped};
 use c_objects::error::{TextError, told};
 use c_objects::globs::{Unread, read};
 use c_objects::lent::Lent;
-use c_objects::making::hand_out;
 use c_objects::object::{Failure, Object};
-use c_objects::owned::Owned;
+use c_objects::owned::{Owned, hand_out};
 use c_objects::read_glob::ReadGlob;
 use c_objects::slices;
 use c_objects::status::{

@@ -6,9 +6,8 @@ ghost use Rattle.c_objects.specs.Ignoring.{AreIgnoreOptions, ignores_case};
 ghost use Rattle.c_objects.specs.Kinds.{IfIgnore, IfIgnores, IsIgnore};
 ghost use Rattle.c_objects.specs.Statuses.{IsOneOf};
 
-use c_objects::making::hand_out;
 use c_objects::object::Object;
-use c_objects::owned::Owned;
+use c_objects::owned::{Owned, hand_out};
 use c_objects::status::{DONE, OUT_OF_MEMORY, Status, UNKNOWN_OPTION, WRONG_KIND};
 use git_ignore::RulesBuilder;
 use std::alloc::Global;

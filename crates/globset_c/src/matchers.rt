@@ -6,9 +6,8 @@ ghost use Rattle.c_objects.specs.Statuses.{IsOneOf};
 ghost use Rattle.glob_text.specs.GlobMatches.{glob_matches};
 
 use c_objects::lent::Lent;
-use c_objects::making::give;
 use c_objects::object::{Failure, Object};
-use c_objects::owned::Owned;
+use c_objects::owned::{Owned, give};
 use c_objects::status::{DONE, NO, OUT_OF_MEMORY, Status, WRONG_KIND, YES};
 use globset::{Candidate, MatcherSearcher};
 use std::alloc::Global;

@@ -7,8 +7,7 @@ ghost use Rattle.c_objects.specs.Relations.{AnswersCovering, AnswersOverlap, Ans
 ghost use Rattle.c_objects.specs.Statuses.{IsOneOf};
 
 use c_objects::lent::Lent;
-use c_objects::making::give;
-use c_objects::owned::Owned;
+use c_objects::owned::{Owned, give};
 use c_objects::relations::{
     answer_covering, answer_overlap, answer_unreachable, decides_of, domain_of, is_decides,
     is_domain,

@@ -9,9 +9,8 @@ ghost use Rattle.c_objects.specs.Kinds.{IfSearcher, IfSearchers, IfSet, IsSearch
 ghost use Rattle.c_objects.specs.Statuses.{IsOneOf};
 
 use c_objects::lent::Lent;
-use c_objects::making::give;
 use c_objects::object::{Failure, Object};
-use c_objects::owned::Owned;
+use c_objects::owned::{Owned, give};
 use c_objects::searchers::{is_match_in, matches_all_in};
 use c_objects::slices::Indexes;
 use c_objects::status::{DONE, NO, OUT_OF_MEMORY, Status, WRONG_KIND, YES};

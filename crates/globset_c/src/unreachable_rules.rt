@@ -7,9 +7,8 @@ ghost use Rattle.c_objects.specs.Relations.{AnswersRules, domain_of, IsDomain};
 ghost use Rattle.c_objects.specs.Statuses.{IsOneOf};
 
 use c_objects::answers::Answers;
-use c_objects::making::hand_out;
 use c_objects::object::Object;
-use c_objects::owned::Owned;
+use c_objects::owned::{Owned, hand_out};
 use c_objects::relations::{answers_about, domain_of, is_domain};
 use c_objects::status::{BAD_INDEX, DONE, OUT_OF_MEMORY, Status, UNKNOWN_OPTION, WRONG_KIND};
 use std::alloc::Global;
