@@ -44,7 +44,7 @@ impl Drop for Globs {
 
 /// A question to a set or a matcher about a path.
 #[derive(Clone, Copy)]
-enum Question {
+enum PathQuestion {
     /// Whether it matches the path.
     Path,
     /// Whether it matches some path below the path, which is a directory.
@@ -71,8 +71,8 @@ impl Globs {
             "glob" => self.glob(columns),
             "add" => self.add(columns),
             "match" => self.is_match(columns),
-            "path" => self.path(columns, Question::Path),
-            "below" => self.path(columns, Question::Below),
+            "path" => self.path(columns, PathQuestion::Path),
+            "below" => self.path(columns, PathQuestion::Below),
             "equal" => self.equal(columns),
             "offset" => self.offset(columns),
             "parts" => self.parts(columns),
@@ -128,7 +128,7 @@ impl Globs {
     fn is_match(&self, columns: &mut Columns<'_>) -> Result<String, RowFault> {
         let mut alone = Globs::new(self.alloc);
         alone.push(read(self.alloc, columns)??)?;
-        let answers = alone.path(columns, Question::Path)?;
+        let answers = alone.path(columns, PathQuestion::Path)?;
         let answer = if answers.as_str() == "0\tyes\t0" {
             "yes"
         } else if answers.as_str() == "-\tno\t-" {
@@ -145,12 +145,12 @@ impl Globs {
     ///
     /// About a path a set answers which indexes it returns, and whether all globs match; about a directory, whether it matches
     /// some path below it.
-    fn path(&self, columns: &mut Columns<'_>, question: Question) -> Result<String, RowFault> {
+    fn path(&self, columns: &mut Columns<'_>, question: PathQuestion) -> Result<String, RowFault> {
         let bytes = unescaped(self.alloc, columns.next()?)?;
         self.answers(&Candidate::from_bytes(&bytes), question)
     }
 
-    fn answers(&self, path: &Candidate<'_>, question: Question) -> Result<String, RowFault> {
+    fn answers(&self, path: &Candidate<'_>, question: PathQuestion) -> Result<String, RowFault> {
         let first = self.answer(&self.set, None, path, question)?;
         let few_rows = self.answer(&self.few_rows, Some(FEW_ROWS), path, question)?;
         let no_rows = self.answer(&self.no_rows, Some(NO_ROWS), path, question)?;
@@ -166,7 +166,7 @@ impl Globs {
         set: &GlobSet,
         limit: Option<usize>,
         path: &Candidate<'_>,
-        question: Question,
+        question: PathQuestion,
     ) -> Result<String, RowFault> {
         let of_set = answer_of_set(self.alloc, set, path, question)?;
         let of_each = self.matching(limit, path, question)?;
@@ -178,7 +178,7 @@ impl Globs {
         &self,
         limit: Option<usize>,
         path: &Candidate<'_>,
-        question: Question,
+        question: PathQuestion,
     ) -> Result<Vec<usize>, Error> {
         let mut indexes = Vec::new(self.alloc);
         for (i, glob) in self.globs.iter().enumerate() {
@@ -264,9 +264,9 @@ fn answer_of_set(
     alloc: Global,
     set: &GlobSet,
     path: &Candidate<'_>,
-    question: Question,
+    question: PathQuestion,
 ) -> Result<String, RowFault> {
-    if let Question::Below = question {
+    if let PathQuestion::Below = question {
         let below = yes_or_no(set.can_match_below_candidate(path)?);
         return Ok(String::from_str(alloc, below)?);
     }
@@ -285,9 +285,9 @@ fn ask_under(
     limit: Option<usize>,
     glob: &Glob,
     path: &Candidate<'_>,
-    question: Question,
+    question: PathQuestion,
 ) -> Result<bool, Error>
-    ensures path { question ≡ Question.Path
+    ensures path { question ≡ PathQuestion.Path
         → IfOk result (λ yes. yes ≡ glob_matches glob.now path.now) }
 {
     match limit {
@@ -302,13 +302,13 @@ fn ask_under(
     }
 }
 
-fn ask(matcher: &GlobMatcher, path: &Candidate<'_>, question: Question) -> Result<bool, Error>
-    ensures path { question ≡ Question.Path
+fn ask(matcher: &GlobMatcher, path: &Candidate<'_>, question: PathQuestion) -> Result<bool, Error>
+    ensures path { question ≡ PathQuestion.Path
         → IfOk result (λ yes. yes ≡ glob_matches matcher.now path.now) }
 {
     match question {
-        Question::Path => matcher.is_match_candidate(path),
-        Question::Below => matcher.can_match_below_candidate(path),
+        PathQuestion::Path => matcher.is_match_candidate(path),
+        PathQuestion::Below => matcher.can_match_below_candidate(path),
     }
 }
 
@@ -318,15 +318,15 @@ fn search(
     alloc: Global,
     matcher: &GlobMatcher,
     path: &Candidate<'_>,
-    question: Question,
+    question: PathQuestion,
 ) -> Result<bool, Error>
-    ensures path { question ≡ Question.Path
+    ensures path { question ≡ PathQuestion.Path
         → IfOk result (λ yes. yes ≡ glob_matches matcher.now path.now) }
 {
     let mut searcher = MatcherSearcher::new(alloc, matcher)?;
     Ok(match question {
-        Question::Path => searcher.is_match(path),
-        Question::Below => searcher.can_match_below(path),
+        PathQuestion::Path => searcher.is_match(path),
+        PathQuestion::Below => searcher.can_match_below(path),
     })
 }
 
