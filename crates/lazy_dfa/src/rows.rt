@@ -591,10 +591,10 @@ fn room_within(bytes: usize, width: usize, states: usize, taken: usize) -> Room
     }
 }
 
-/// Returns how many rows an automaton of so many states has at most: one for each set of states, and as many again, since a row is
-/// made anew if it is no longer found. So the cache of a small automaton takes little memory, and is made quickly.
+/// Returns for how many rows an automaton of so many states has room at most: one for each set of states, and as many again, since
+/// states are listed in different orders. So the cache of a small automaton takes little memory, and is made quickly.
 fn most_rows(states: usize) -> usize {
-    if states < 32 { 2 << states } else { usize::MAX }
+    FEWEST_PLACES.max(2 << states.min(31))
 }
 
 /// If half of the places of the table of rows may be taken, makes it twice as large, as far as there is room for that, and puts
