@@ -25,7 +25,7 @@ pub struct Table {
 #[derive(Drop)]
 enum Contents {
     None,
-    /// The single entry, whose key is in the bytes. It is found without a hash or another allocation.
+    /// The single entry, whose key is in the bytes. It is found without a hash, and made without another allocation.
     One(Vec<u8>, Pair),
     /// Several entries. They are in a box, so that little is moved with a table.
     Many(Box<Keys>),

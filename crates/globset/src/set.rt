@@ -192,8 +192,8 @@ impl GlobSet {
     }
 
     /// Returns for how many bytes of rows the set keeps caches between calls. It is 0 in a new set, and calls raise it, at most
-    /// to the limit that [`GlobSetBuilder::dfa_size_limit`] sets. A cache takes more memory than that if the states of a row need
-    /// it. Clones share the caches.
+    /// to the limit that [`GlobSetBuilder::dfa_size_limit`] sets. A cache takes less memory than that if the automaton is small, and
+    /// more if the states of a row need it. Clones share the caches.
     ///
     /// ```rust
     /// use globset::{Glob, GlobSet};

@@ -80,8 +80,8 @@ impl GlobMatcher {
     }
 
     /// Returns for how many bytes of rows the matcher keeps caches between calls. It is 0 in a new matcher, and where no
-    /// automaton is needed, and calls raise it, at most to the limit of [`Glob::compile_matcher_with_limit`]. A cache takes more
-    /// memory than that if the states of a row need it. Clones share the caches.
+    /// automaton is needed, and calls raise it, at most to the limit of [`Glob::compile_matcher_with_limit`]. A cache takes less
+    /// memory than that if the automaton is small, and more if the states of a row need it. Clones share the caches.
     pub fn kept_bytes(&self) -> usize {
         self.strategy.kept_bytes()
     }

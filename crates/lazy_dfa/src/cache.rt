@@ -37,9 +37,9 @@ impl Model for Cache {
 impl Cache {
     /// Returns a cache with no rows.
     ///
-    /// It takes so many bytes, and more only where the states of a row take most of them: there is always room for these, and a
-    /// quarter of the bytes for rows. All memory is taken here, and none by later calls. Returns an error if memory runs out, or
-    /// if [`Simulation::may_have_rows`] returns `false`.
+    /// It takes at most so many bytes, fewer where a small automaton cannot fill them, and more only where the states of a row
+    /// take most of them: there is always room for these, and a quarter of the bytes for rows. All memory is taken here, and none
+    /// by later calls. Returns an error if memory runs out, or if [`Simulation::may_have_rows`] returns `false`.
     pub fn new(
         alloc: Global,
         simulation: &Arc<Simulation>,
