@@ -10,7 +10,7 @@ ghost use Rattle.glob_path.specs.PathParts.{component_extension};
 ghost use Rattle.glob_syntax.specs.FlatTokens.{IsNested};
 ghost use Rattle.glob_syntax.specs.Views.{flats, tokens_of};
 ghost use Rattle.set_matcher.specs.inner.Caches.{AreCachesOf};
-ghost use Rattle.set_matcher.specs.inner.Automata.{AreForLists, AreFound, AreIdle, IsFoundSet, TokenLists, automata_or_none, max_states, nfa_at, no_automata, reads_for, slot_of, states_for, AreFoundBelow, folder_reads};
+ghost use Rattle.set_matcher.specs.inner.Automata.{AreForLists, AreFound, AreIdle, IsFoundSet, TokenLists, max_states, nfa_at, no_automata, reads_for, slot_of, states_for, AreFoundBelow, folder_reads};
 ghost use Rattle.set_matcher.specs.inner.Builders.{AddsTo};
 ghost use Rattle.byte_nfa.specs.Live.{MatchesAfter};
 
@@ -295,19 +295,16 @@ impl Automata {
     }
 }
 
-/// Makes [`Automata`] if some glob needs an automaton.
+/// Makes [`Automata`].
 #[derive(Drop)]
 pub struct AutomataBuilder {
     by_path: Builder,
     by_component: Builder,
     extensions: ExtensionMatchersBuilder,
-    /// Whether `add` was called.
-    is_used: bool,
 }
 
 impl Model for AutomataBuilder {
-    ghost use Rattle.set_matcher.specs.inner.Automata.{AutomataParts};
-    ghost use Rattle.set_matcher.specs.inner.Builders.{AreCollected};
+    ghost use Rattle.set_matcher.specs.inner.Automata.{AutomataParts, HaveOneCount};
 
     ghost Value = { AutomataParts };
 
@@ -317,7 +314,7 @@ impl Model for AutomataBuilder {
       extensions = b.extensions;
     } };
 
-    ghost invariant = { λ b. AreCollected b.by_path b.by_component b.extensions b.is_used };
+    ghost invariant = { λ b. HaveOneCount b.by_path b.by_component b.extensions };
 }
 
 /// The automaton that tokens are added to, by what it is run on: the whole path, its last component, or the path before its
@@ -338,15 +335,7 @@ impl AutomataBuilder {
             by_path: new_builder(alloc, index_count),
             by_component: new_builder(alloc, index_count),
             extensions: ExtensionMatchersBuilder::new(alloc, index_count),
-            is_used: false,
         }
-    }
-
-    /// Returns the number that each index is below.
-    pub fn index_count(&self) -> usize
-        ensures { result ≡ self.now.extensions.index_count }
-    {
-        self.extensions.index_count()
     }
 
     /// Adds tokens to an automaton. It takes time and memory linear in the tokens.
@@ -364,7 +353,6 @@ impl AutomataBuilder {
             (AddsTo target self.old self.new (indexed options (tokens_of tokens.now) index)) }
         ensures count { self.new.extensions.index_count ≡ self.old.extensions.index_count }
     {
-        self.is_used = true;
         match target {
             Target::Path => add_tokens(alloc, &mut self.by_path, options, tokens, index),
             Target::LastComponent => {
@@ -376,25 +364,15 @@ impl AutomataBuilder {
         }
     }
 
-    /// Returns the automata of the globs that were added, or `None` if there are none. The rows that are kept between calls take
-    /// at most `dfa_size_limit` bytes.
-    pub fn finish(
-        self,
-        alloc: Global,
-        dfa_size_limit: usize,
-    ) -> Result<Option<Box<Automata>>, AllocError>
-        ensures { IfOk result
-            (λ automata. automata_or_none self.extensions.index_count automata ≡ self) }
+    /// Returns the automata of the tokens that were added. The rows that they keep take at most `dfa_size_limit` bytes.
+    pub fn finish(self, alloc: Global, dfa_size_limit: usize) -> Result<Automata, AllocError>
+        ensures { IfOk result (λ automata. automata ≡ self) }
     {
         let AutomataBuilder {
             by_path,
             by_component,
             extensions,
-            is_used,
         } = self;
-        if !is_used {
-            return Ok(None);
-        }
         let by_path = by_path.finish();
         let by_component = by_component.finish();
         let has_component = has_text(alloc, &by_component)?;
@@ -413,14 +391,13 @@ impl AutomataBuilder {
             .state_count()
             .max(by_component.state_count())
             .max(extensions.max_states());
-        let automata = Automata {
+        Ok(Automata {
             by_path,
             by_component,
             extensions,
             max_states,
             has_component,
-        };
-        Ok(Some(Box::new(alloc, automata)?))
+        })
     }
 }
 

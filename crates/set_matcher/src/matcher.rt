@@ -11,6 +11,7 @@ ghost use Rattle.glob_syntax.specs.inner.Weight.{weight};
 ghost use Rattle.glob_text.specs.GlobMatches.{IsRead, glob_value};
 ghost use Rattle.set_matcher.specs.SetValue.{set_globs, set_states};
 ghost use Rattle.set_matcher.specs.inner.Caches.{AreCachesOf};
+ghost use Rattle.set_matcher.specs.inner.Automata.{automata_or_none};
 ghost use Rattle.set_matcher.specs.inner.SetMatcher.{AddsGlob, set_matcher_parts};
 ghost use Rattle.set_matcher.specs.inner.TokenGlobs.{token_glob};
 ghost use Rattle.bit_sets.specs.Texts.{AllBytes};
@@ -61,7 +62,7 @@ impl Model for SetMatcher {
 
     ghost view = { λ g. set_matcher_value g.globs (automata_or_none g.len g.automata) };
 
-    ghost invariant = { λ g. KeepsMatcherOf g.globs g.len g.keys g.automata };
+    ghost invariant = { λ g. KeepsMatcherOf g.globs g.len g.len g.keys g.automata };
 }
 
 impl SetMatcher {
@@ -319,24 +320,27 @@ impl SetMatcher {
 pub struct SetMatcherBuilder {
     alloc: Global,
     globs: GivenGlobs,
+    /// The number of globs that it is for.
+    count: usize,
     /// The number of globs that were added.
     len: usize,
     keys: LiteralIndexBuilder,
-    automata: AutomataBuilder,
+    /// It is made for the first glob that needs an automaton, so that little is moved for a set without automata.
+    automata: Option<Box<AutomataBuilder>>,
 }
 
 impl Model for SetMatcherBuilder {
     ghost use Rattle.set_matcher.specs.SetMatcherValue.{AddedGlobs};
-    ghost use Rattle.set_matcher.specs.inner.SetMatcher.{IsMatcherOf};
+    ghost use Rattle.set_matcher.specs.inner.SetMatcher.{KeepsMatcherOf};
 
     ghost Value = { AddedGlobs };
 
     ghost view = { λ g. record {
       given = g.globs;
-      count = g.automata.extensions.index_count;
+      count = g.count;
     } };
 
-    ghost invariant = { λ g. IsMatcherOf g.globs g.len g.keys g.automata };
+    ghost invariant = { λ g. KeepsMatcherOf g.globs g.len g.count g.keys g.automata };
 }
 
 impl SetMatcherBuilder {
@@ -348,9 +352,10 @@ impl SetMatcherBuilder {
         SetMatcherBuilder {
             alloc,
             globs: GivenGlobs::new(),
+            count,
             len: 0,
             keys: LiteralIndexBuilder::new(alloc),
-            automata: AutomataBuilder::new(alloc, count),
+            automata: None,
         }
     }
 
@@ -381,12 +386,12 @@ impl SetMatcherBuilder {
         ensures none { OnErr result (self.new.given ≡ []) }
         ensures count { self.new.count ≡ self.old.count }
     {
-        let count = self.automata.index_count();
         let index = self.len;
         let added = put(
             self.alloc,
             &mut self.keys,
             &mut self.automata,
+            self.count,
             options,
             tokens,
             index,
@@ -396,7 +401,7 @@ impl SetMatcherBuilder {
             self.globs = GivenGlobs::new();
             self.len = 0;
             self.keys = LiteralIndexBuilder::new(self.alloc);
-            self.automata = AutomataBuilder::new(self.alloc, count);
+            self.automata = None;
             return Err(error);
         }
         self.globs = self.globs.copy().and(text, options);
@@ -413,47 +418,62 @@ impl SetMatcherBuilder {
         let SetMatcherBuilder {
             alloc,
             globs,
+            count: _,
             len,
             keys,
             automata,
         } = self;
+        let automata = match automata {
+            Some(automata) => {
+                let automata = Box::into_inner(automata).finish(alloc, dfa_size_limit)?;
+                Some(Box::new(alloc, automata)?)
+            }
+            None => None,
+        };
         let matcher = SetMatcher {
             alloc,
             globs,
             len,
             keys: keys.finish(alloc)?,
-            automata: automata.finish(alloc, dfa_size_limit)?,
+            automata,
         };
         Ok(Arc::new(alloc, matcher)?)
     }
 }
 
-/// Puts the tokens of a glob where its strategy says. Returns an error if memory runs out.
+/// Puts the tokens of a glob where its strategy says. Returns an error if memory runs out, and what was there may be gone then.
 fn put(
     alloc: Global,
     keys: &mut LiteralIndexBuilder,
-    automata: &mut AutomataBuilder,
+    automata: &mut Option<Box<AutomataBuilder>>,
+    count: usize,
     options: Options,
     tokens: &[Token],
     index: usize,
 ) -> Result<(), AllocError>
     requires nested { IsNested (flats tokens.now) }
-    requires index { index < automata.old.extensions.index_count }
+    requires index { index < count }
+    requires count { (automata_or_none count automata.old).extensions.index_count ≡ count }
     ensures matcher { OnOk result (AddsGlob (token_glob options (tokens_of tokens.now)) index
-        (set_matcher_parts keys.old automata.old) (set_matcher_parts keys.new automata.new)) }
-    ensures count { automata.new.extensions.index_count ≡ automata.old.extensions.index_count }
+        (set_matcher_parts keys.old (automata_or_none count automata.old))
+        (set_matcher_parts keys.new (automata_or_none count automata.new))) }
+    ensures count { OnOk result
+        ((automata_or_none count automata.new).extensions.index_count ≡ count) }
 {
-    match strategy_of(alloc, options, tokens)? {
-        MatchStrategy::Excluded => Ok(()),
-        MatchStrategy::Key(key) => keys.add(key, index),
+    let (target, rest) = match strategy_of(alloc, options, tokens)? {
+        MatchStrategy::Excluded => return Ok(()),
+        MatchStrategy::Key(key) => return keys.add(key, index),
         MatchStrategy::RequiredExtension(extension) => {
-            let rest = tokens_before_ending(tokens);
-            automata.add(alloc, Target::Extension(extension), options, rest, index)
+            (Target::Extension(extension), tokens_before_ending(tokens))
         }
-        MatchStrategy::BasenameRegex => {
-            let rest = tokens_after_prefix(tokens);
-            automata.add(alloc, Target::LastComponent, options, rest, index)
-        }
-        MatchStrategy::Regex => automata.add(alloc, Target::Path, options, tokens, index),
-    }
+        MatchStrategy::BasenameRegex => (Target::LastComponent, tokens_after_prefix(tokens)),
+        MatchStrategy::Regex => (Target::Path, tokens),
+    };
+    let mut builder = match automata.take() {
+        Some(builder) => builder,
+        None => Box::new(alloc, AutomataBuilder::new(alloc, count))?,
+    };
+    builder.add(alloc, target, options, rest, index)?;
+    *automata = Some(builder);
+    Ok(())
 }

@@ -1,12 +1,12 @@
 -- What it means that tokens are added to automata.
-use Rattle.std.specs.Prelude.{◌≡◌, ℕ, ◌+◌, ◌≤◌, Bool, false, List, [], ◌∷◌, ◌++◌}
+use Rattle.std.specs.Prelude.{◌≡◌, ℕ, ◌+◌, ◌≤◌, List, [], ◌∷◌, ◌++◌}
 use Rattle.byte_nfa.specs.Runs.{max_reads}
 use Rattle.byte_nfa.specs.Steps.{NfaValue}
 use Rattle.glob_strategy.specs.IndexedTokens.{IndexedTokens, IsFor}
 use Rattle.glob_syntax.specs.inner.Weight.{weight}
 use Rattle.set_matcher.specs.declared.automata.Target.{Target}
 use Rattle.set_matcher.specs.declared.automata.Target.TheVariants.{Path, LastComponent, Extension}
-use Rattle.set_matcher.specs.inner.Automata.{AddsReads, AddsTokensTo, AutomataParts, ExtensionParts, HaveOneCount, no_automata, total_reads}
+use Rattle.set_matcher.specs.inner.Automata.{AddsReads, AddsTokensTo, AutomataParts, ExtensionParts, total_reads}
 
 -- the most reads for tokens at a position of a text: their states, and three entries of a filter
 abbrev pub reads_of : IndexedTokens → ℕ
@@ -28,9 +28,3 @@ abbrev pub AddsTo : Target → AutomataParts → AutomataParts → IndexedTokens
 AddsTo Path old new x = AddsToNfa old.by_path new.by_path x × (new ≡ record old { by_path = new.by_path })
 AddsTo LastComponent old new x = AddsToNfa old.by_component new.by_component x × (new ≡ record old { by_component = new.by_component })
 AddsTo (Extension key) old new x = AddsToExtension key.items old.extensions new.extensions x × (new ≡ record old { extensions = new.extensions })
-
--- The invariants of the parts of a builder of automata: the number that each index is below is the same for all of them. As long as
--- the builder is not used, there are no states, and no extension has a slot.
-pub record AreCollected (by_path by_component : NfaValue) (extensions : ExtensionParts) (is_used : Bool) : Type 0 where
-  pub counts : HaveOneCount by_path by_component extensions
-  pub unused : is_used ≡ false → record { by_path = by_path; by_component = by_component; extensions = extensions } ≡ no_automata extensions.index_count

@@ -47,7 +47,7 @@ pub record IsMatcherOf (given : List GlobValue) (len : ℕ) (keys : KeyParts) (a
   pub counted : len ≡ length given
   pub indexed : len ≤ automata.extensions.index_count
 
--- The same of a matcher, which has automata only if some glob needs any. They have no other index.
-pub record KeepsMatcherOf (given : List GlobValue) (len : ℕ) (keys : KeyParts) (automata : Option (Box AutomataParts)) : Type 0 where
-  pub of_globs : IsMatcherOf given len keys (automata_or_none len automata)
-  pub count : (automata_or_none len automata).extensions.index_count ≡ len
+-- The same of a matcher or its builder for n globs, which has automata only if some glob needs any. Their indexes are below n.
+pub record KeepsMatcherOf (given : List GlobValue) (len n : ℕ) (keys : KeyParts) (automata : Option (Box AutomataParts)) : Type 0 where
+  pub of_globs : IsMatcherOf given len keys (automata_or_none n automata)
+  pub count : (automata_or_none n automata).extensions.index_count ≡ n

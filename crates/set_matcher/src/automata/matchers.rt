@@ -316,13 +316,6 @@ impl ExtensionMatchersBuilder {
         }
     }
 
-    /// Returns the number that each index is below.
-    pub fn index_count(&self) -> usize
-        ensures { result ≡ self.now.index_count }
-    {
-        self.index_count
-    }
-
     /// Adds the tokens of a glob that matches only paths with a given extension. It takes time and memory linear in the tokens.
     pub fn add_tokens(
         &mut self,
