@@ -21,6 +21,7 @@ const ROOM: usize = FULL + (4 << 10);
 
 /// The output for lines: how it is made, the pending output, and whether there was any. The vectors keep their capacity from line
 /// to line.
+#[derive(Drop)]
 pub struct Output {
     /// The searcher that lines are matched with.
     pub searcher: Searcher,
@@ -30,17 +31,6 @@ pub struct Output {
     pub pending: Vec<u8>,
     /// Whether some line is output, be it written or pending.
     pub any_written: bool,
-}
-
-impl Drop for Output {
-    fn drop(self) {
-        let Output {
-            searcher: _,
-            numbered: _,
-            pending: _,
-            any_written: _,
-        } = self;
-    }
 }
 
 impl Output {

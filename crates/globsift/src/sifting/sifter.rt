@@ -13,17 +13,12 @@ use std::alloc::{AllocError, Global};
 use std::io::Write;
 
 /// The state between chunks.
+#[derive(Drop)]
 pub struct Sifter {
     /// The output for the lines so far.
     pub output: Output,
     /// The beginning of a line whose end was not read yet. The vector keeps its capacity.
     pub rest: Vec<u8>,
-}
-
-impl Drop for Sifter {
-    fn drop(self) {
-        let Sifter { output: _, rest: _ } = self;
-    }
 }
 
 impl Sifter {
