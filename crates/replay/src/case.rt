@@ -22,24 +22,13 @@ const FEW_ROWS: usize = 1 << 14;
 const NO_ROWS: usize = 0;
 
 /// The globs of the rows of a case so far, and sets of them: under the default limit, and under each other limit.
+#[derive(Drop)]
 pub struct Globs {
     alloc: Global,
     globs: Vec<Glob>,
     set: GlobSet,
     few_rows: GlobSet,
     no_rows: GlobSet,
-}
-
-impl Drop for Globs {
-    fn drop(self) {
-        let Globs {
-            alloc: _,
-            globs: _,
-            set: _,
-            few_rows: _,
-            no_rows: _,
-        } = self;
-    }
 }
 
 /// A question to a set or a matcher about a path.
