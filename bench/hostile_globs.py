@@ -4,12 +4,10 @@ import collections
 import random
 
 import colliding_keys
-import colliding_rows
 
 # A row's paths; half of them are made as those that match, the others with what no glob has.
 PATHS = 10_000
 MISSES = 1_000
-PATH = 40
 LETTERS = "abcdefghijklmnopqrstuvwxyz"
 # The most that the kernel hands to a program is 6 MB, so there are few keys of 100 KB, and texts that begin with each other
 # are shorter where there are more of them.
@@ -63,15 +61,6 @@ def shapes(*shape_of_each):
             yield List([glob(index, count) for index in range(count)], [path(index, count) for index in asked])
 
     return lists
-
-
-def rows_of_one_place(count):
-    """The lists of the same globs, with paths of letters whose rows have one place, and paths of as many other letters."""
-    whole_paths = [f"src/{code(index)}.rs" for index in range(count - colliding_rows.GLOBS)]
-    for letters in (colliding_rows.CHOSEN, colliding_rows.ORDINARY):
-        rng = random.Random(53)
-        paths = ["".join(rng.choices(letters, k=PATH)) for _ in range(PATHS)]
-        yield List(colliding_rows.globs() + whole_paths, paths)
 
 
 def word(index, length):
@@ -165,6 +154,5 @@ OTHERS = {
         lambda index, _: "**/" + word(index, 11) + "/" + code(index),
         lambda index, _: "src/" * 7 + word(index, 11) + "/" + code(index),
     ),
-    "rows, one place": rows_of_one_place,
 }
 ROWS = {**{f"tables: {name}": lists for name, lists in TABLES.items()}, **OTHERS}
