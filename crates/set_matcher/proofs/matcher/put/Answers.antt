@@ -32,26 +32,28 @@ returns-clause-matcher c =
     let new = c.add-2.new.self in
     let old = automata_or_none c.args.count c.args.automata.now in
     let builder : c.deref_mut.result.now ≡ old = elim c.match-take.branch [
-    in-Some w ↦ c.deref_mut.ensures.value ∙ ap (λ b. b.value) w.builder-is ∙ sym (kept_is c.args.count (sym c.take.ensures.value ∙ w.in-Some.is) refl)
-    | in-None+in_ok-builder-in-None w ↦ c.deref_mut.ensures.value ∙ ap (λ b. b.value) w.builder-is ∙ w.in_ok-builder-in-None.ensures.ok ∙ w.new.ensures
-        ∙ sym (ap (λ a. automata_or_none c.args.count a) (sym c.take.ensures.value ∙ w.in-None.is)) ] in
+      | in-Some w ↦ c.deref_mut.ensures.value ∙ ap (λ b. b.value) w.builder-is ∙ sym (kept_is c.args.count (sym c.take.ensures.value ∙ w.in-Some.is) refl)
+      | in-None+in_ok-builder-in-None w ↦ c.deref_mut.ensures.value ∙ ap (λ b. b.value) w.builder-is ∙ w.in_ok-builder-in-None.ensures.ok ∙ w.new.ensures
+          ∙ sym (ap (λ a. automata_or_none c.args.count a) (sym c.take.ensures.value ∙ w.in-None.is))
+    ] in
     let adds = subst (λ a. AddsTo c.match-branch-2.target.0 a new (indexed g.options (tokens_of c.match-branch-2.target.1.now) n)) builder c.in_ok-add.ensures.added in
     λ globs at before. elim c.match-branch-2.branch [
-    in-RequiredExtension w ↦
-        let is = rw w.in-RequiredExtension.is at c.in_ok-strategy_of.ensures in
-        let key = w.in-RequiredExtension.extension in
-        by_extension_added globs g n at c.args.keys.now old before key.items new
-        (subst (λ ts. AddsTo (Extension key) old new (indexed g.options ts n)) w.tokens_before_ending.ensures.tokens
-        (subst (λ p. AddsTo p.0 old new (indexed g.options (tokens_of p.1.now) n)) w.target-is adds))
-        is.tells is.automaton (is.indirect refl) is.below
-    | in-BasenameRegex w ↦
-        let is = rw w.in-BasenameRegex.is at c.in_ok-strategy_of.ensures in
-        by_component_added globs g n at c.args.keys.now old before new
-        (subst (λ ts. AddsTo LastComponent old new (indexed g.options ts n)) w.tokens_after_prefix.ensures.tokens
-        (subst (λ p. AddsTo p.0 old new (indexed g.options (tokens_of p.1.now) n)) w.target-is adds))
-        is.tells (λ path. is.automaton path refl) is.below
-    | in-Regex w ↦
-        let is = rw w.in-Regex.is at c.in_ok-strategy_of.ensures in
-        by_path_added globs g n at c.args.keys.now old before new
-        (subst (λ p. AddsTo p.0 old new (indexed g.options (tokens_of p.1.now) n)) w.target-is adds)
-        is.tells (λ path. is.automaton path refl) (is.indirect refl) is.below ]
+      | in-RequiredExtension w ↦
+          let is = rw w.in-RequiredExtension.is at c.in_ok-strategy_of.ensures in
+          let key = w.in-RequiredExtension.extension in
+          by_extension_added globs g n at c.args.keys.now old before key.items new
+          (subst (λ ts. AddsTo (Extension key) old new (indexed g.options ts n)) w.tokens_before_ending.ensures.tokens
+          (subst (λ p. AddsTo p.0 old new (indexed g.options (tokens_of p.1.now) n)) w.target-is adds))
+          is.tells is.automaton (is.indirect refl) is.below
+      | in-BasenameRegex w ↦
+          let is = rw w.in-BasenameRegex.is at c.in_ok-strategy_of.ensures in
+          by_component_added globs g n at c.args.keys.now old before new
+          (subst (λ ts. AddsTo LastComponent old new (indexed g.options ts n)) w.tokens_after_prefix.ensures.tokens
+          (subst (λ p. AddsTo p.0 old new (indexed g.options (tokens_of p.1.now) n)) w.target-is adds))
+          is.tells (λ path. is.automaton path refl) is.below
+      | in-Regex w ↦
+          let is = rw w.in-Regex.is at c.in_ok-strategy_of.ensures in
+          by_path_added globs g n at c.args.keys.now old before new
+          (subst (λ p. AddsTo p.0 old new (indexed g.options (tokens_of p.1.now) n)) w.target-is adds)
+          is.tells (λ path. is.automaton path refl) (is.indirect refl) is.below
+    ]
