@@ -13,7 +13,7 @@ use crate::path_rule::PathRule;
 use crate::reading::{after_mark, line_at};
 use crate::scratch::IgnoreScratch;
 use bit_sets::Visits;
-use glob_matching::{Compiled, DEFAULT_DFA_SIZE_LIMIT};
+use engine::{Compiled, DEFAULT_DFA_SIZE_LIMIT};
 use ignore_pattern::{IgnorePattern, automaton_of, line_text};
 use lazy_dfa::Cache;
 use std::alloc::{AllocError, Global};

@@ -8,7 +8,7 @@ ghost use Rattle.glob_relations.specs.Unused.{items_at};
 ghost use Rattle.glob_relations.specs.inner.Automata.{IsFor, FindsEach, numbered, under};
 
 use byte_nfa::{Builder, Nfa};
-use glob_matching::shared;
+use engine::shared;
 use glob_strategy::{add_tokens, new_builder};
 use globset_glob::{Glob, flat_tokens_of, options_of};
 use ignore_pattern::{IgnorePattern, add_pattern};

@@ -21,7 +21,7 @@ ghost use Rattle.glob_text.specs.GlobMatches.{GlobValue, tokens_of_glob, glob_ma
 
 use crate::builder::GlobBuilder;
 use crate::matcher::GlobMatcher;
-use glob_matching::DEFAULT_DFA_SIZE_LIMIT;
+use engine::DEFAULT_DFA_SIZE_LIMIT;
 use glob_syntax::{Options, Token, copy_of};
 use glob_text::{Error, regex_of_tokens, tokens_of_text};
 use std::alloc::{AllocError, Global};

@@ -20,7 +20,7 @@ use crate::caches::Caches;
 use crate::path_part::{Part, matches_part, run};
 use bit_sets::{IndexSet, StateSet, Visits};
 use byte_nfa::{Builder, Nfa, StateSets};
-use glob_matching::Compiled;
+use engine::Compiled;
 use glob_path::PathParts;
 use glob_strategy::{add_tokens, new_builder};
 use glob_syntax::{Options, Token};

@@ -10,7 +10,7 @@ ghost use Rattle.set_matcher.specs.inner.Caches.{AreCachesOf, IsCacheAt};
 
 use bit_sets::Visits;
 use byte_nfa::StateSets;
-use glob_matching::Compiled;
+use engine::Compiled;
 use lazy_dfa::Cache;
 use std::alloc::AllocError;
 use std::marker::Model;

@@ -15,7 +15,7 @@ ghost use Rattle.set_matcher.specs.inner.Automata.{automata_or_none};
 ghost use Rattle.set_matcher.specs.inner.SetMatcher.{AddsGlob, set_matcher_parts};
 ghost use Rattle.set_matcher.specs.inner.TokenGlobs.{token_glob};
 ghost use Rattle.bit_sets.specs.Texts.{AllBytes};
-ghost use Rattle.glob_matching.specs.ScratchValue.{HasCapacity};
+ghost use Rattle.engine.specs.ScratchValue.{HasCapacity};
 ghost use Rattle.byte_nfa.specs.Sets.{sets_capacity};
 ghost use Rattle.set_matcher.specs.Answer.{matching_indexes};
 ghost use Rattle.set_matcher.specs.Below.{MatchesBelow};
@@ -26,7 +26,7 @@ use crate::automata::{Automata, AutomataBuilder, Target};
 use crate::caches::Caches;
 use bit_sets::Visits;
 use byte_nfa::StateSets;
-use glob_matching::Scratch;
+use engine::Scratch;
 use glob_path::{Candidate, PathParts};
 use glob_strategy::{
     LiteralIndex, LiteralIndexBuilder, MatchStrategy, strategy_of, tokens_after_prefix,

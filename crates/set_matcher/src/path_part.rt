@@ -5,13 +5,13 @@ ghost use Rattle.bit_sets.specs.Indexes.{index_capacity};
 ghost use Rattle.bit_sets.specs.Texts.{AllBytes};
 ghost use Rattle.byte_nfa.specs.Runs.{size, max_reads};
 ghost use Rattle.byte_nfa.specs.Sets.{sets_capacity};
-ghost use Rattle.glob_matching.specs.Matching.{AddsMatches, TellsMatch};
+ghost use Rattle.engine.specs.Matching.{AddsMatches, TellsMatch};
 ghost use Rattle.set_matcher.specs.inner.Automata.{before_extension};
 ghost use Rattle.set_matcher.specs.inner.PathPart.{part_of};
 
 use bit_sets::{IndexSet, Visits};
 use byte_nfa::StateSets;
-use glob_matching::Compiled;
+use engine::Compiled;
 use glob_path::PathParts;
 use lazy_dfa::Cache;
 use std::alloc::AllocError;

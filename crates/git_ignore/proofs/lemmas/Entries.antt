@@ -8,7 +8,7 @@ use Rattle.bit_sets.specs.Indexes.{has_index}
 use Rattle.bit_sets.specs.Texts.{AllBytes}
 use Rattle.bit_sets.specs.declared.index_set.IndexSet.{IndexSet}
 use Rattle.byte_nfa.specs.Steps.{IsReached, NfaValue}
-use Rattle.glob_matching.specs.Matching.{AddsReached}
+use Rattle.engine.specs.Matching.{AddsReached}
 use Rattle.ignore_pattern.specs.Automata.{IsAutomatonOf, SomeAbove, above_index, matches_at}
 use Rattle.ignore_pattern.specs.Patterns.{Pattern, pattern_matches, applies}
 use Rattle.git_ignore.specs.Rules.{Rule, last_rule, patterns_of, told, deciding_rule, rules_of}

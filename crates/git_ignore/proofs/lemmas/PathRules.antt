@@ -7,7 +7,7 @@ use Rattle.bit_sets.specs.Indexes.{has_index}
 use Rattle.bit_sets.specs.Texts.{AllBytes}
 use Rattle.bit_sets.specs.declared.index_set.IndexSet.{IndexSet}
 use Rattle.byte_nfa.specs.Steps.{NfaValue}
-use Rattle.glob_matching.specs.Matching.{AddsReached}
+use Rattle.engine.specs.Matching.{AddsReached}
 use Rattle.ignore_pattern.specs.Automata.{IsAutomatonOf, SomeAbove}
 use Rattle.ignore_pattern.specs.Patterns.{pattern_matches}
 use Rattle.git_ignore.specs.Folders.{file_rule, files_rule}

@@ -3,7 +3,7 @@ use denote.Param.Send.{IsSend, IsSync, sendable}
 use Rattle.std.proofs.Crossing.{crosses}
 use Rattle.globset_glob.specs.contracts.glob.Glob as Glob
 use Rattle.globset_glob.specs.contracts.matcher.GlobMatcher as GlobMatcher
-use Rattle.glob_matching.proofs.lemmas.Shared.{compiled-send, compiled-sync}
+use Rattle.engine.proofs.lemmas.Shared.{compiled-send, compiled-sync}
 use Rattle.lazy_dfa.proofs.lemmas.Shared.{cache-send, cache-sync}
 use Rattle.set_matcher.proofs.lemmas.Shared.{matcher-send, matcher-sync}
 use Rattle.globset_glob.specs.contracts.matcher.MatcherSearcher as MatcherSearcher

@@ -11,7 +11,7 @@ use Rattle.bit_sets.specs.Texts.{AllBytes}
 use Rattle.glob_strategy.specs.IndexedTokens.{SomeMeanAfter}
 use Rattle.glob_strategy.specs.IndexedTokens.{IndexedTokens, IsFor}
 use Rattle.glob_strategy.proofs.lemmas.IndexedTokens.{reached_matches}
-use Rattle.glob_matching.proofs.lemmas.Compiled.{some_after, after_some}
+use Rattle.engine.proofs.lemmas.Compiled.{some_after, after_some}
 use Rattle.glob_strategy.specs.KeysBelow.{MatchesBelow}
 use Rattle.set_matcher.specs.inner.TokenGlobs.{TokenGlob, SomeReportedBelow}
 use Rattle.set_matcher.specs.Visits.{visits_below_for}

@@ -4,7 +4,7 @@ use Rattle.std.proofs.Math.Logic.{⊎_elim}
 use Rattle.std.specs.Global.{Box}
 use Rattle.bit_sets.specs.Texts.{AllBytes}
 use Rattle.byte_nfa.specs.Live.{MatchesAfter}
-use Rattle.glob_matching.proofs.lemmas.Compiled.{after_matches}
+use Rattle.engine.proofs.lemmas.Compiled.{after_matches}
 use Rattle.glob_path.specs.Below.{folder_start}
 use Rattle.glob_path.specs.PathParts.{last_component}
 use Rattle.set_matcher.specs.inner.Automata.{AreForLists, AreFoundBelow, AreIdle, AutomataParts, TokenLists, automata_or_none, no_automata, no_nfa}

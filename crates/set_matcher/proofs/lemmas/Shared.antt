@@ -1,7 +1,7 @@
 -- Groups can be sent to other threads, and shared between them.
 use denote.Param.Send.{IsSend, IsSync, sendable}
 use Rattle.std.proofs.Crossing.{crosses}
-use Rattle.glob_matching.proofs.lemmas.Shared.{compiled-send, compiled-sync}
+use Rattle.engine.proofs.lemmas.Shared.{compiled-send, compiled-sync}
 use Rattle.glob_strategy.proofs.lemmas.Shared.{keys-send, keys-sync, table-send, table-sync}
 use Rattle.set_matcher.specs.contracts.automata.matchers.ExtensionMatchers as ExtensionMatchers
 use Rattle.set_matcher.specs.contracts.automata.Automata as Automata

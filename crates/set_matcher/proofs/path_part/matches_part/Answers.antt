@@ -1,7 +1,7 @@
 use Rattle.std.proofs.Common.{◌≡◌, subst, arith, true≢false, sym}
 use Rattle.std.specs.Prelude.{IfOk}
 use Rattle.byte_nfa.specs.Runs.{size, max_reads}
-use Rattle.glob_matching.specs.Matching.{TellsMatch}
+use Rattle.engine.specs.Matching.{TellsMatch}
 use Rattle.set_matcher.specs.inner.PathPart.{part_of}
 use Rattle.set_matcher.proofs.lemmas.Automata.{no_matches}
 use Rattle.set_matcher.proofs.lemmas.PathPart.{part_bytes, part_visits}

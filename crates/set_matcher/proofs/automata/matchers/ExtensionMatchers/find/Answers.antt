@@ -3,7 +3,7 @@ use Rattle.std.specs.Prelude.{OnOk}
 use Rattle.std.proofs.Math.Logic.{⊎_elim}
 use Rattle.bit_sets.specs.Indexes.{has_index}
 use Rattle.byte_nfa.specs.Runs.{size}
-use Rattle.glob_matching.specs.Matching.{AddsMatches}
+use Rattle.engine.specs.Matching.{AddsMatches}
 use Rattle.set_matcher.specs.inner.Automata.{before_extension, nfa_at}
 use Rattle.set_matcher.proofs.lemmas.Automata.{before_bytes, no_matches}
 use Rattle.set_matcher.proofs.automata.matchers.ExtensionMatchers.find.Goals as goal
