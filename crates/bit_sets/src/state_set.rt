@@ -23,7 +23,7 @@ pub struct StateSet {
 }
 
 impl StateSet {
-    ghost use Rattle.std.specs.Prelude.{◌≡◌, ℕ, ◌+◌, ◌<◌, ◌≤◌, ◌||◌, ◌==◌, false, MatchOption, IfOk, OnOk, IsOk, IsTrue};
+    ghost use Rattle.std.specs.Prelude.{◌≡◌, ℕ, ◌+◌, ◌<◌, ◌≤◌, ◌||◌, ◌==◌, ◌↔◌, false, MatchOption, IfOk, OnOk, IsOk, IsTrue};
     ghost use Rattle.bit_sets.specs.Bits.{TellsLastBelow};
     ghost use Rattle.bit_sets.specs.StateSets.{has_state, state_capacity};
     ghost use Rattle.bit_sets.specs.Numbers.{AreBelow, has_number};
@@ -62,6 +62,13 @@ impl StateSet {
         ensures memory { states ≤ state_capacity self.old → IsOk result }
     {
         grow(&mut self.words, words_for(states))
+    }
+
+    /// Returns whether there is room for `states` states.
+    pub fn has_capacity_for(&self, states: usize) -> bool
+        ensures { IsTrue result ↔ (states ≤ state_capacity self.now) }
+    {
+        words_for(states) <= self.words.len()
     }
 
     /// Takes every state out.

@@ -140,7 +140,7 @@ impl Simulation {
         ensures counted { visits.old ≤ visits.new }
     {
         sets.reserve(self.automaton.state_count())?;
-        let StateSets { current, next, .. } = sets;
+        let StateSets { current, next } = sets;
         self.automaton.start(current);
         stepping::find(&self.automaton, text, current, next, found, visits);
         Ok(())
@@ -162,7 +162,7 @@ impl Simulation {
         ensures counted { visits.old ≤ visits.new }
     {
         sets.reserve(self.automaton.state_count())?;
-        let StateSets { current, next, .. } = sets;
+        let StateSets { current, next } = sets;
         self.automaton.start(current);
         Ok(stepping::is_match(&self.automaton, text, current, next, visits))
     }
@@ -185,7 +185,7 @@ impl Simulation {
         ensures counted { visits.old ≤ visits.new }
     {
         sets.reserve(self.automaton.state_count())?;
-        let StateSets { current, next, .. } = sets;
+        let StateSets { current, next } = sets;
         self.automaton.start(current);
         Ok(stepping::can_match_after(
             &self.automaton,

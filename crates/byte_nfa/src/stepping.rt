@@ -406,8 +406,6 @@ pub fn tell_ends(ends: &IndexSet, half: usize, lowest: usize, into: &mut IndexSe
 pub struct StateSets {
     pub(crate) current: StateSet,
     pub(crate) next: StateSet,
-    /// The most states that room was made for.
-    reserved: usize,
 }
 
 impl StateSets {
@@ -418,13 +416,14 @@ impl StateSets {
         StateSets {
             current: StateSet::empty(alloc),
             next: StateSet::empty(alloc),
-            reserved: 0,
         }
     }
 
     /// Returns whether there is room for `states` states.
-    pub fn has_capacity_for(&self, states: usize) -> bool {
-        states <= self.reserved
+    pub fn has_capacity_for(&self, states: usize) -> bool
+        ensures { IsTrue result ↔ (states ≤ sets_capacity self.now) }
+    {
+        self.current.has_capacity_for(states) && self.next.has_capacity_for(states)
     }
 
     /// Makes room for `states` states, if there is less. It allocates two bits for each.
@@ -434,8 +433,6 @@ impl StateSets {
         ensures memory { states ≤ sets_capacity self.old → IsOk result }
     {
         self.current.reserve(states)?;
-        self.next.reserve(states)?;
-        self.reserved = self.reserved.max(states);
-        Ok(())
+        self.next.reserve(states)
     }
 }

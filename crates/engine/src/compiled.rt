@@ -119,7 +119,9 @@ impl Compiled {
     }
 
     /// Returns whether a call with these sets of states may take memory: whether they have no room for all states.
-    fn may_take_memory(&self, sets: &StateSets) -> bool {
+    fn may_take_memory(&self, sets: &StateSets) -> bool
+        ensures { (result ≡ false) ↔ (size self.now ≤ sets_capacity sets.now) }
+    {
         !sets.has_capacity_for(self.source.state_count())
     }
 }
