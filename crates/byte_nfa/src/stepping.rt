@@ -1,6 +1,6 @@
 //! Texts that are read by sets of states, without rows.
 
-ghost use Rattle.std.specs.Prelude.{◌≡◌, ℕ, ◌+◌, ◌*◌, ◌<◌, ◌≤◌, ◌||◌, ◌⊎◌, ◌↔◌, ◌^◌, ◌++◌, ◌∷◌, [], List, length, min, Some, None, IsTrue, IsFalse, IfSome, MatchOption, OnOk, IsOk};
+ghost use Rattle.std.specs.Prelude.{◌≡◌, ℕ, ◌+◌, ◌*◌, ◌<◌, ◌≤◌, ◌||◌, ◌⊎◌, ◌↔◌, ◌^◌, ◌++◌, ◌∷◌, [], List, length, min, false, Some, None, IsTrue, IsFalse, IfSome, MatchOption, OnOk, IsOk};
 ghost use Rattle.bit_sets.specs.Indexes.{has_index, index_capacity};
 ghost use Rattle.bit_sets.specs.StateSets.{has_state, state_capacity};
 ghost use Rattle.bit_sets.specs.Texts.{AllBytes};
@@ -11,7 +11,7 @@ ghost use Rattle.byte_nfa.specs.Steps.{NfaValue, state};
 ghost use Rattle.byte_nfa.specs.inner.Pass.{goes_now, goes_next, names};
 ghost use Rattle.byte_nfa.specs.inner.Told.{ToldBy};
 ghost use Rattle.byte_nfa.specs.inner.Views.{GoesBelow};
-ghost use Rattle.byte_nfa.specs.inner.Stepping.{IsLed, IsRunOn, IsStepBy, HasEndFrom, EndsBelow, StepsBelow, AddsTold, AddsFoundFrom};
+ghost use Rattle.byte_nfa.specs.inner.Stepping.{AreCounted, IsLed, IsLedCounted, IsRunOn, IsStepBy, HasEndFrom, EndsBelow, StepsBelow, AddsTold, AddsFoundFrom};
 ghost use Rattle.byte_nfa.specs.Sets.{sets_capacity};
 
 use crate::nfa::Nfa;
@@ -91,9 +91,10 @@ pub fn run(
     ensures none { IsFalse result
         → (z : List ℕ) → AddsFoundFrom automaton.now from.old (text.now ++ z) found.old found.new }
 
-    // The visits are bounded, and do not become fewer.
+    // The visits are bounded, and do not become fewer. Each state that the text leads to, except those before it, is a visit.
     ensures visits { visits.new ≤ visits.old + length text.now * size automaton.now }
     ensures counted { visits.old ≤ visits.new }
+    ensures led_counted { AreCounted (has_state from.old) (has_state from.new) visits.old visits.new }
 {
     let half = automaton.index_count() / 2;
     for byte in text {
@@ -197,9 +198,10 @@ pub fn read(
         ≡ min (state_capacity from.old) (state_capacity to.old) }
     ensures led { IsLed automaton.now from.old from.new text.now result }
 
-    // The visits are bounded, and do not become fewer.
+    // The visits are bounded, and do not become fewer. Each state that the text leads to, except those before it, is a visit.
     ensures visits { visits.new ≤ visits.old + length text.now * size automaton.now }
     ensures counted { visits.old ≤ visits.new }
+    ensures led_counted { IsLedCounted from.old from.new visits.old visits.new result }
 {
     let half = automaton.index_count() / 2;
     for byte in text {
@@ -243,9 +245,9 @@ fn step(
     ensures steps { IsStepBy automaton.now from.old byte to.new }
     ensures told { AddsTold automaton.now from.old lowest found.old found.new }
 
-    // The visits are bounded, and do not become fewer.
+    // The visits are bounded, and each state in `to` is a visit.
     ensures visits { visits.new ≤ visits.old + size automaton.now }
-    ensures counted { visits.old ≤ visits.new }
+    ensures counted { AreCounted (λ _. false) (has_state to.new) visits.old visits.new }
 {
     let half = automaton.index_count() / 2;
     to.clear();
@@ -275,9 +277,9 @@ fn has_end(
     ensures steps { IsFalse result → IsStepBy automaton.now from.old byte to.new }
     ensures some { IsTrue result ↔ HasEndFrom automaton.now from.old lowest }
 
-    // The visits are bounded, and do not become fewer.
+    // The visits are bounded, and each state in `to` is a visit.
     ensures visits { visits.new ≤ visits.old + size automaton.now }
-    ensures counted { visits.old ≤ visits.new }
+    ensures counted { AreCounted (λ _. false) (has_state to.new) visits.old visits.new }
 {
     to.clear();
     let mut limit = automaton.state_count();
@@ -316,9 +318,9 @@ fn next_end(
     ensures end { MatchOption result (limit.new ≡ 0)
         (λ i. (limit.new < limit.old) × (lowest ≤ i) × (i < automaton.now.index_count)) }
 
-    // The limit becomes smaller by at least the number of new visits, and the visits do not become fewer.
+    // The limit becomes smaller by at least the number of new visits. Each state that is put into `to` is a visit.
     ensures visits { visits.new + limit.new ≤ visits.old + limit.old }
-    ensures counted { visits.old ≤ visits.new }
+    ensures counted { AreCounted (has_state to.old) (has_state to.new) visits.old visits.new }
 {
     while let Some(s) = from.last_below(*limit, visits) {
         *limit = s;
@@ -355,9 +357,9 @@ fn take(
     ensures from { (t : ℕ)
         → has_state from.new t
         ≡ (goes_now (state automaton.now.states s) t || has_state from.old t) }
-    ensures to { (b t : ℕ) → byte ≡ Some b
+    ensures to { (t : ℕ)
         → has_state to.new t
-        ≡ (goes_next (state automaton.now.states s) s (Some b) t || has_state to.old t) }
+        ≡ (goes_next (state automaton.now.states s) s byte t || has_state to.old t) }
     ensures end { (i : ℕ) → lowest ≤ i
         → IsTrue (names (state automaton.now.states s) None i) ↔ (result ≡ Some i) }
     ensures index { IfSome result (λ i. (lowest ≤ i) × (i < automaton.now.index_count)) }

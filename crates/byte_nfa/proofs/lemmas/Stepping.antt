@@ -1,17 +1,19 @@
 -- Passes over a set of states.
-use Rattle.std.proofs.Common.{◌≡◌, ℕ, ◌+◌, ◌-◌, ◌<◌, ◌≤◌, ◌⊎◌, inl, inr, Bool, true, false, List, [], ◌∷◌, IsTrue, Some, None, true≢false, refl, sym, subst, ◌∙◌, arith, min}
-use Rattle.std.specs.Prelude.{◌↔◌, ◌||◌, Option, MatchOption, is_some}
+use Rattle.std.proofs.Common.{◌≡◌, ℕ, ◌+◌, ◌-◌, ◌<◌, ◌≤◌, ◌⊎◌, inl, inr, Bool, true, false, List, [], ◌∷◌, ◌++◌, IsTrue, Some, None, true≢false, refl, sym, subst, ◌∙◌, arith, min, length-append}
+use Rattle.std.specs.Prelude.{◌↔◌, ◌||◌, ◌&&◌, ◌==◌, Option, MatchOption, is_some}
 use Rattle.std.proofs.Math.Logic.{⊎_elim}
+use Rattle.bit_sets.specs.Bytes.{has_byte}
+use Rattle.bit_sets.specs.Numbers.{has_number}
 use Rattle.bit_sets.specs.StateSets.{has_state}
 use Rattle.bit_sets.specs.declared.state_set.StateSet.{StateSet}
 use Rattle.byte_nfa.specs.EarlyMatches.{EndsAtEarlyMatches, half}
 use Rattle.byte_nfa.specs.Runs.{size, AcceptsFrom}
-use Rattle.byte_nfa.specs.Steps.{NfaValue, State, state}
+use Rattle.byte_nfa.specs.Steps.{NfaValue, State, bytes_state, union_state, loop_state, match_state, state}
 use Rattle.byte_nfa.specs.inner.Views.{GoesBelow}
-use Rattle.byte_nfa.specs.inner.Pass.{goes_now, names, AcceptsNow}
+use Rattle.byte_nfa.specs.inner.Pass.{goes_now, goes_next, names, AcceptsNow}
 use Rattle.byte_nfa.proofs.lemmas.Pass.{iff_trans, none_swept, some_found, read_taken, stays_at_end, next_position, iff_sym}
 use Rattle.byte_nfa.proofs.lemmas.After.{index_below}
-use Rattle.byte_nfa.specs.inner.Stepping.{EndsBelow, StepsBelow, HasEndFrom}
+use Rattle.byte_nfa.specs.inner.Stepping.{AreCounted, EndsBelow, StepsBelow, HasEndFrom}
 
 or_off : (p : Bool) → p ≡ (p || false)
 or_off true = refl
@@ -82,3 +84,57 @@ room_swapped x y a b m first second same = omega arith
 -- some index, of those below twice n
 pub below_all : (n : ℕ) (P : List ℕ → ℕ → Type 0) → ((k : ℕ) → P [] k → k < n + n) → ((i : ℕ) × (0 ≤ i) × P [] i) ↔ ((k : ℕ) × (k < n + n) × P [] k)
 below_all n P below = (λ (k, le, h). (k, below k h, h), λ (k, low, h). (k, omega arith, h))
+
+-- what is counted: nothing in addition, nothing at all, one state's step more, and one count after another
+pub counted_same : (set : ℕ → Bool) (n : ℕ) → AreCounted set set n n
+counted_same set n = ([], omega arith, λ t h. h)
+
+pub counted_none : (set : ℕ → Bool) (n : ℕ) → ((t : ℕ) → set t ≡ false) → AreCounted (λ _. false) set n n
+counted_none set n none = ([], omega arith, λ t h. sym (none t) ∙ h)
+
+in_more : (p q r s t : Bool) → (IsTrue p → IsTrue q) → IsTrue (p || r) → (IsTrue r → IsTrue (s || t)) → IsTrue ((q || s) || t)
+in_more p true r s t up h f = refl
+in_more true false r s t up h f = absurd (true≢false (sym (up refl)))
+in_more false false r s t up h f = f h
+
+both_hold : (p q : Bool) → IsTrue (p && q) → IsTrue q
+both_hold true q h = h
+both_hold false q h = absurd (true≢false (sym h))
+
+one_next : (st : State) (s : ℕ) (o : Option ℕ) → (u : ℕ) × ((t : ℕ) → IsTrue (goes_next st s o t) → IsTrue (t == u))
+one_next (bytes_state w u) s None = (u, λ t h. absurd (true≢false (sym h)))
+one_next (bytes_state w u) s (Some c) = (u, λ t h. both_hold (has_byte w c) (t == u) h)
+one_next (union_state us) s o = (s, λ t h. absurd (true≢false (sym h)))
+one_next (loop_state w us) s None = (s, λ t h. absurd (true≢false (sym h)))
+one_next (loop_state w us) s (Some c) = (s, λ t h. both_hold (has_byte w c) (t == s) h)
+one_next (match_state k) s o = (s, λ t h. absurd (true≢false (sym h)))
+
+pub counted_taken : (st : State) (s : ℕ) (o : Option ℕ) (old now new : ℕ → Bool) (a b c : ℕ) → AreCounted old now a b → b < c → ((t : ℕ) → new t ≡ (goes_next st s o t || now t)) → AreCounted old new a c
+counted_taken st s o old now new a b c (added, le, counted) more taken =
+    let (u, only) = one_next st s o in
+    (u ∷ added, omega (arith, le, more), λ t h. in_more (goes_next st s o t) (t == u) (now t) (has_number t added) (old t) (only t) (sym (taken t) ∙ h) (counted t))
+
+joined : (t : ℕ) (xs ys : List ℕ) → has_number t (xs ++ ys) ≡ (has_number t xs || has_number t ys)
+joined t [] ys = refl
+joined t (x ∷ xs) ys = rw (joined t xs ys) (or_grouped (t == x) (has_number t xs) (has_number t ys))
+  where
+    or_grouped : (p q r : Bool) → (p || (q || r)) ≡ ((p || q) || r)
+    or_grouped true q r = refl
+    or_grouped false q r = refl
+
+pub counted_then : (old now new : ℕ → Bool) (a b c : ℕ) → AreCounted old now a b → AreCounted now new b c → AreCounted old new a c
+counted_then old now new a b c (xs, le, first) (ys, le', second) =
+    (ys ++ xs, omega (arith, le, le', length-append ys xs), λ t h. rw (joined t ys xs) (in_more (has_number t ys) (has_number t ys) (now t) (has_number t xs) (old t) (λ h. h) (second t h) (first t)))
+
+in_listed_too : (p q : Bool) → IsTrue (p || false) → IsTrue (p || q)
+in_listed_too true q h = refl
+in_listed_too false q h = absurd (true≢false (sym h))
+
+pub counted_anew : (old now new : ℕ → Bool) (a b c : ℕ) → AreCounted old now a b → AreCounted (λ _. false) new b c → AreCounted old new a c
+counted_anew old now new a b c (xs, le, first) (ys, le', second) = (ys, omega (arith, le, le'), λ t h. in_listed_too (has_number t ys) (old t) (second t h))
+
+pub counted_up : (old new : ℕ → Bool) (a b : ℕ) → AreCounted old new a b → a ≤ b
+counted_up old new a b (xs, le, more) = omega (arith, le)
+
+pub counted_past : (old now new : ℕ → Bool) (a b c : ℕ) → AreCounted old now a b → AreCounted (λ _. false) new b c → a ≤ c
+counted_past old now new a b c (xs, le, first) (ys, le', second) = omega (arith, le, le')

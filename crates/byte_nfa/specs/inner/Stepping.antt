@@ -1,8 +1,9 @@
 -- Where a text leads, by sets of states.
-use Rattle.std.specs.Prelude.{◌≡◌, ℕ, ◌≤◌, ◌⊎◌, ◌↔◌, false, List, [], ◌∷◌, ◌++◌, Option, Some, IsTrue}
+use Rattle.std.specs.Prelude.{◌≡◌, ℕ, ◌+◌, ◌≤◌, ◌⊎◌, ◌↔◌, ◌||◌, Bool, false, List, [], ◌∷◌, ◌++◌, length, Option, Some, IsTrue}
 use Rattle.bit_sets.specs.Indexes.{has_index}
 use Rattle.bit_sets.specs.declared.index_set.IndexSet.{IndexSet}
 use Rattle.bit_sets.specs.declared.state_set.StateSet.{StateSet}
+use Rattle.bit_sets.specs.Numbers.{has_number}
 use Rattle.bit_sets.specs.StateSets.{has_state}
 use Rattle.byte_nfa.specs.Steps.{NfaValue}
 use Rattle.byte_nfa.specs.Runs.{AcceptsFrom}
@@ -19,6 +20,10 @@ EndsBelow m from limit i = AcceptsNow m.states (has_state from) limit [] i
 -- a state of the set below the limit accepts the byte and what follows, or a state of the other set accepts what follows
 abbrev pub StepsBelow : NfaValue → StateSet → ℕ → StateSet → ℕ → List ℕ → ℕ → Type 0
 StepsBelow m from limit to b y k = PassInvariant m.states (has_state from) limit (has_state to) (λ _. false) (b ∷ y) k
+
+-- a count grows by at least as many as the new set has numbers that the old set lacks
+abbrev pub AreCounted : (ℕ → Bool) → (ℕ → Bool) → ℕ → ℕ → Type 0
+AreCounted old new before after = (added : List ℕ) × (before + length added ≤ after) × ((t : ℕ) → IsTrue (new t) → IsTrue (has_number t added || old t))
 
 -- the byte, if there is one, leads from the states of a set to those of the other set
 abbrev pub IsStepBy : NfaValue → StateSet → Option ℕ → StateSet → Type 0
@@ -43,6 +48,12 @@ abbrev pub IsLed : NfaValue → StateSet → StateSet → List ℕ → Led → T
 IsLed m old new text Decided = (z : List ℕ) → (k : ℕ) × FindsBy (half m) (AcceptsFrom m old) (text ++ z) k
 IsLed m old new text NoState = (z : List ℕ) (k : ℕ) → FindsBy (half m) (AcceptsFrom m old) (text ++ z) k → ⊥
 IsLed m old new text States = (z : List ℕ) (k : ℕ) → FindsBy (half m) (AcceptsFrom m new) z k ↔ FindsBy (half m) (AcceptsFrom m old) (text ++ z) k
+
+-- a count grows by at least as many as the states that the text leads to, except those of the old set
+abbrev pub IsLedCounted : StateSet → StateSet → ℕ → ℕ → Led → Type 0
+IsLedCounted old new before after Decided = before ≤ after
+IsLedCounted old new before after NoState = before ≤ after
+IsLedCounted old new before after States = AreCounted (has_state old) (has_state new) before after
 
 -- With every text after this text: the indexes found from the states of the old set, together with the old indexes, are the
 -- indexes found in the added text from the states of the new set, together with the new indexes.

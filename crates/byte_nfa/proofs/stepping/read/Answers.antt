@@ -1,10 +1,10 @@
 use Rattle.std.proofs.Common.{◌≡◌, ℕ, ◌+◌, ◌<◌, [], ◌∷◌, ◌++◌, inr, length, get_or, drop, min, true≢false, arith, sym, ◌∙◌, refl, ap}
 use Rattle.std.proofs.lemmas.List.{drop_more, drop_all}
-use Rattle.bit_sets.specs.StateSets.{state_capacity}
+use Rattle.bit_sets.specs.StateSets.{has_state, state_capacity}
 use Rattle.byte_nfa.specs.Runs.{AcceptsFrom}
 use Rattle.byte_nfa.proofs.lemmas.Pass.{iff_trans}
 use Rattle.byte_nfa.proofs.lemmas.Finding.{at_quiet, at_dead}
-use Rattle.byte_nfa.proofs.lemmas.Stepping.{decides_some, none_decided, dead_step, room_swapped}
+use Rattle.byte_nfa.proofs.lemmas.Stepping.{decides_some, none_decided, dead_step, room_swapped, counted_anew, counted_up, counted_past}
 use Rattle.byte_nfa.specs.EarlyMatches.{half}
 use Rattle.byte_nfa.proofs.stepping.read.Goals as goal
 
@@ -27,7 +27,7 @@ loop-byte-preserved c =
           (ap state_capacity c.swap.ensures.x_after ∙ took.to_capacity) (ap state_capacity c.swap.ensures.y_after ∙ took.from_capacity) inv.sets;
       runs = λ z k. rw c.swap.ensures.x_after (iff_trans (at_quiet (half m) before (AcceptsFrom m c.has_end.new.to) b (λ y j. took.steps c.if-has_end.false b y j refl) none (rest ++ z) k) (rw more at inv.runs z k));
       visits = omega (arith, inv.visits, took.visits);
-      counted = omega arith;
+      counted = rw c.swap.ensures.x_after (counted_anew (has_state c.args.from.now) (has_state c.loop-byte.from) (has_state c.has_end.new.to) _ _ _ inv.counted took.counted);
     }
 
 pub returns-then-has_end-clause-led : goal.returns-then-has_end-clause-led
@@ -67,3 +67,21 @@ pub returns-clause-led : goal.returns-clause-led
 returns-clause-led c = λ z k.
     let past : drop c.loop-byte.byte-index c.args.text.now ≡ [] = drop_all c.loop-byte.byte-index c.args.text.now (omega arith) in
     rw past at c.loop-byte.invariant.runs z k
+
+pub returns-then-has_end-clause-counted : goal.returns-then-has_end-clause-counted
+returns-then-has_end-clause-counted c = counted_past (has_state c.args.from.now) (has_state c.loop-byte.from) (has_state c.has_end.new.to) _ _ _ c.loop-byte.invariant.counted c.has_end.ensures.counted
+
+pub returns-then-has_end-clause-led_counted : goal.returns-then-has_end-clause-led_counted
+returns-then-has_end-clause-led_counted c = counted_past (has_state c.args.from.now) (has_state c.loop-byte.from) (has_state c.has_end.new.to) _ _ _ c.loop-byte.invariant.counted c.has_end.ensures.counted
+
+pub returns-then-is_empty-clause-counted : goal.returns-then-is_empty-clause-counted
+returns-then-is_empty-clause-counted c = counted_past (has_state c.args.from.now) (has_state c.loop-byte.from) (has_state c.has_end.new.to) _ _ _ c.loop-byte.invariant.counted c.has_end.ensures.counted
+
+pub returns-then-is_empty-clause-led_counted : goal.returns-then-is_empty-clause-led_counted
+returns-then-is_empty-clause-led_counted c = counted_past (has_state c.args.from.now) (has_state c.loop-byte.from) (has_state c.has_end.new.to) _ _ _ c.loop-byte.invariant.counted c.has_end.ensures.counted
+
+pub returns-clause-led_counted : goal.returns-clause-led_counted
+returns-clause-led_counted c = c.loop-byte.invariant.counted
+
+pub returns-clause-counted : goal.returns-clause-counted
+returns-clause-counted c = counted_up (has_state c.args.from.now) (has_state c.loop-byte.from) _ _ c.loop-byte.invariant.counted

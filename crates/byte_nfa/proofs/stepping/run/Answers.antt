@@ -1,11 +1,11 @@
 use Rattle.std.proofs.Common.{◌≡◌, ℕ, ◌+◌, ◌<◌, [], ◌∷◌, ◌++◌, length, get_or, drop, min, arith, refl, ◌∙◌, ap}
 use Rattle.std.proofs.lemmas.List.{drop_more, drop_all}
 use Rattle.bit_sets.specs.Indexes.{has_index}
-use Rattle.bit_sets.specs.StateSets.{state_capacity}
+use Rattle.bit_sets.specs.StateSets.{has_state, state_capacity}
 use Rattle.byte_nfa.specs.Runs.{AcceptsFrom}
 use Rattle.byte_nfa.proofs.lemmas.Pass.{iff_trans, iff_sym}
 use Rattle.byte_nfa.proofs.lemmas.Finding.{iff_beside, at_dead, told_found}
-use Rattle.byte_nfa.proofs.lemmas.Stepping.{dead_step, room_swapped}
+use Rattle.byte_nfa.proofs.lemmas.Stepping.{dead_step, room_swapped, counted_anew, counted_up, counted_past}
 use Rattle.byte_nfa.proofs.lemmas.Told.{told_decided}
 use Rattle.byte_nfa.specs.EarlyMatches.{half}
 use Rattle.byte_nfa.proofs.stepping.run.Goals as goal
@@ -30,7 +30,7 @@ loop-byte-preserved c =
       runs = λ z k. rw c.swap.ensures.x_after (told_found (half m) before (AcceptsFrom m c.step.new.to) b (λ y j. took.steps b y j refl) (rest ++ z) k
           (has_index c.loop-byte.found k) (has_index c.step.new.found k) _ (iff_trans (told k) (iff_beside (told_decided (half m) (before []) k))) (rw more at inv.runs z k));
       visits = omega (arith, inv.visits, took.visits);
-      counted = omega arith;
+      counted = rw c.swap.ensures.x_after (counted_anew (has_state c.args.from.now) (has_state c.loop-byte.from) (has_state c.step.new.to) _ _ _ inv.counted took.counted);
     }
 
 pub returns-then-is_empty-clause-none : goal.returns-then-is_empty-clause-none
@@ -53,3 +53,12 @@ pub returns-clause-found : goal.returns-clause-found
 returns-clause-found c = λ _ z k.
     let past : drop c.loop-byte.byte-index c.args.text.now ≡ [] = drop_all c.loop-byte.byte-index c.args.text.now (omega arith) in
     rw past at c.loop-byte.invariant.runs z k
+
+pub returns-then-is_empty-clause-led_counted : goal.returns-then-is_empty-clause-led_counted
+returns-then-is_empty-clause-led_counted c = rw c.swap.ensures.x_after (counted_anew (has_state c.args.from.now) (has_state c.loop-byte.from) (has_state c.step.new.to) _ _ _ c.loop-byte.invariant.counted c.step.ensures.counted)
+
+pub returns-then-is_empty-clause-counted : goal.returns-then-is_empty-clause-counted
+returns-then-is_empty-clause-counted c = counted_past (has_state c.args.from.now) (has_state c.loop-byte.from) (has_state c.step.new.to) _ _ _ c.loop-byte.invariant.counted c.step.ensures.counted
+
+pub returns-clause-counted : goal.returns-clause-counted
+returns-clause-counted c = counted_up (has_state c.args.from.now) (has_state c.loop-byte.from) _ _ c.loop-byte.invariant.counted

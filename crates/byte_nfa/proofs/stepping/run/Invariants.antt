@@ -1,9 +1,10 @@
 use Rattle.std.proofs.Common.{◌≡◌, ℕ, ◌+◌, ◌*◌, ◌≤◌, ◌⊎◌, ◌++◌, List, min, drop, IsTrue}
 use Rattle.std.specs.Prelude.{◌↔◌}
 use Rattle.bit_sets.specs.Indexes.{has_index, index_capacity}
-use Rattle.bit_sets.specs.StateSets.{state_capacity}
+use Rattle.bit_sets.specs.StateSets.{has_state, state_capacity}
 use Rattle.byte_nfa.specs.Runs.{size, AcceptsFrom}
 use Rattle.byte_nfa.specs.EarlyMatches.{half, FindsBy}
+use Rattle.byte_nfa.specs.inner.Stepping.{AreCounted}
 use Rattle.byte_nfa.proofs.stepping.run.Given as goal
 
 abbrev pub invariant-loop-byte : goal.invariant-loop-byte
@@ -13,5 +14,5 @@ invariant-loop-byte l =
       room : index_capacity l.found ≡ index_capacity l.fn.found;
       runs : (z : List ℕ) (k : ℕ) → (FindsBy (half m) (AcceptsFrom m l.from) (drop l.byte-index l.text ++ z) k ⊎ IsTrue (has_index l.found k)) ↔ (FindsBy (half m) (AcceptsFrom m l.fn.from) (l.text ++ z) k ⊎ IsTrue (has_index l.fn.found k));
       visits : l.visits ≤ l.fn.visits + l.byte-index * size m;
-      counted : l.fn.visits ≤ l.visits;
+      counted : AreCounted (has_state l.fn.from) (has_state l.from) l.fn.visits l.visits;
     }

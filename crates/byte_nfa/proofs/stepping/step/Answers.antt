@@ -1,9 +1,9 @@
-use Rattle.std.proofs.Common.{◌+◌, ◌<◌, [], refl, ◌∙◌, arith}
+use Rattle.std.proofs.Common.{◌+◌, ◌<◌, [], false, refl, ◌∙◌, arith}
 use Rattle.std.proofs.Math.Logic.{⊎_elim}
 use Rattle.bit_sets.specs.Indexes.{has_index}
 use Rattle.bit_sets.specs.StateSets.{has_state}
 use Rattle.byte_nfa.proofs.lemmas.Pass.{iff_trans}
-use Rattle.byte_nfa.proofs.lemmas.Stepping.{step_begun, step_done, none_below}
+use Rattle.byte_nfa.proofs.lemmas.Stepping.{step_begun, step_done, none_below, counted_none, counted_then}
 use Rattle.byte_nfa.proofs.lemmas.Told.{told_more, told_all}
 use Rattle.byte_nfa.specs.EarlyMatches.{half}
 use Rattle.byte_nfa.specs.inner.Stepping.{EndsBelow}
@@ -20,7 +20,7 @@ loop-index-init c =
       steps = λ b y k is. step_begun m c.args.from.now c.clear.new.self b y k c.clear.ensures.none;
       told = λ k. (λ h. h, λ h. h);
       visits = omega arith;
-      counted = omega arith;
+      counted = counted_none (has_state c.clear.new.self) c.args.visits.now c.clear.ensures.none;
     }
 
 pub loop-index-preserved : goal.loop-index-preserved
@@ -42,7 +42,7 @@ loop-index-preserved c =
       told = λ k. iff_trans (inv.told k) (told_more (half m) (EndsBelow m c.loop-index.from c.loop-index.limit) c.args.lowest k (has_index c.loop-index.found k)
           (EndsBelow m c.next_end.new.from c.next_end.new.limit) i c.told_by.result (has_index c.put.new.self k) (rw c.in-Some.is at passed.ends) from below told (c.put.ensures.has k));
       visits = omega (arith, inv.visits, passed.visits);
-      counted = omega arith;
+      counted = counted_then (λ _. false) (has_state c.loop-index.to) (has_state c.next_end.new.to) _ _ _ inv.counted passed.counted;
     }
 
 pub returns-clause-steps : goal.returns-clause-steps
@@ -59,3 +59,6 @@ returns-clause-told c = λ k.
     told_all (half m) (EndsBelow m c.loop-index.from c.loop-index.limit) c.args.lowest k (has_index c.loop-index.found k)
     (λ j le lt h. ⊎_elim {C = ⊥} (λ low. none_below m.states (has_state c.next_end.new.from) c.next_end.new.limit [] j past low) (λ is. absurd cc) ((passed.ends j le).0 h))
     (c.loop-index.invariant.told k)
+
+pub returns-clause-counted : goal.returns-clause-counted
+returns-clause-counted c = counted_then (λ _. false) (has_state c.loop-index.to) (has_state c.next_end.new.to) _ _ _ c.loop-index.invariant.counted c.next_end.ensures.counted

@@ -1,9 +1,9 @@
-use Rattle.std.proofs.Common.{◌≡◌, ℕ, ◌+◌, ◌≤◌, ◌⊎◌, List, [], ◌∷◌, Some, IsTrue}
+use Rattle.std.proofs.Common.{◌≡◌, ℕ, ◌+◌, ◌≤◌, ◌⊎◌, false, List, [], ◌∷◌, Some, IsTrue}
 use Rattle.std.specs.Prelude.{◌↔◌}
 use Rattle.bit_sets.specs.Indexes.{has_index, index_capacity}
-use Rattle.bit_sets.specs.StateSets.{state_capacity}
+use Rattle.bit_sets.specs.StateSets.{has_state, state_capacity}
 use Rattle.byte_nfa.specs.Runs.{size, AcceptsFrom}
-use Rattle.byte_nfa.specs.inner.Stepping.{StepsBelow, EndsBelow}
+use Rattle.byte_nfa.specs.inner.Stepping.{AreCounted, StepsBelow, EndsBelow}
 use Rattle.byte_nfa.specs.EarlyMatches.{half}
 use Rattle.byte_nfa.specs.inner.Told.{ToldBy}
 use Rattle.byte_nfa.proofs.stepping.step.Given as goal
@@ -18,7 +18,7 @@ invariant-loop-index l =
       steps : (b : ℕ) (y : List ℕ) (k : ℕ) → l.byte ≡ Some b → AcceptsFrom m l.fn.from (b ∷ y) k ↔ StepsBelow m l.from l.limit l.to b y k;
       told : (k : ℕ) → (ToldBy (half m) (AcceptsFrom m l.fn.from []) l.lowest k ⊎ IsTrue (has_index l.fn.found k)) ↔ (ToldBy (half m) (EndsBelow m l.from l.limit) l.lowest k ⊎ IsTrue (has_index l.found k));
       visits : l.visits + l.limit ≤ l.fn.visits + size m;
-      counted : l.fn.visits ≤ l.visits;
+      counted : AreCounted (λ _. false) (has_state l.to) l.fn.visits l.visits;
     }
 
 abbrev pub decreases-loop-index : goal.decreases-loop-index
