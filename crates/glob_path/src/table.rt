@@ -89,16 +89,25 @@ impl Table {
 
     /// Returns the indexes under a key in the order of the additions, or none if the table does not have the key.
     ///
-    /// It is a visit, and copies nothing. `compared` counts the keys that `key` is compared with: with fewer than `2^k` entries
-    /// these are at most `k`, or at most 8 if `k` is less. A comparison reads at most `key.len()` bytes of another key.
-    pub fn get(&self, key: &[u8], visits: &mut Visits, compared: &mut Visits) -> &[usize]
+    /// It is a visit, and copies nothing. It compares `key` with as many keys as [`Table::get_compared`].
+    pub fn get(&self, key: &[u8], visits: &mut Visits) -> &[usize]
         ensures indexes { result.now ≡ indexes_under self.now key.now }
         ensures visits { visits.new ≡ visits.old + 1 }
+    {
+        visits.tick();
+        self.get_compared(key, &mut Visits::new())
+    }
+
+    /// Returns the indexes under a key, as [`Table::get`] does, and counts the keys that `key` is compared with.
+    ///
+    /// With fewer than `2^k` entries these are at most `k`, or at most 8 if `k` is less. A comparison reads at most `key.len()` bytes
+    /// of another key.
+    pub fn get_compared(&self, key: &[u8], compared: &mut Visits) -> &[usize]
+        ensures indexes { result.now ≡ indexes_under self.now key.now }
         ensures compared { (k : ℕ) → length self.now < 2 ^ k
             → compared.new ≤ compared.old + max 8 k }
         ensures counted { compared.old ≤ compared.new }
     {
-        visits.tick();
         match &self.contents {
             Contents::None => &[],
             Contents::One(bytes, pair) => {

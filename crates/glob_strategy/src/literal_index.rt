@@ -158,7 +158,7 @@ impl LiteralIndex {
         if self.paths.is_empty() {
             return &[];
         }
-        self.paths.get(path.path(), visits, &mut Visits::new())
+        self.paths.get(path.path(), visits)
     }
 
     /// Returns the indexes under the path's last component.
@@ -170,8 +170,7 @@ impl LiteralIndex {
         if self.components.is_empty() {
             return &[];
         }
-        self.components
-            .get(path.last_component(), visits, &mut Visits::new())
+        self.components.get(path.last_component(), visits)
     }
 
     /// Returns the indexes under the extension of the path's last component.
@@ -184,8 +183,7 @@ impl LiteralIndex {
         if self.extensions.is_empty() {
             return &[];
         }
-        self.extensions
-            .get(path.extension(), visits, &mut Visits::new())
+        self.extensions.get(path.extension(), visits)
     }
 }
 

@@ -97,7 +97,7 @@ impl ExtensionMatchers {
         ensures held { (s : ℕ) → result ≡ Some s → s < length self.now.nfas }
         ensures visits { visits.new ≡ visits.old + 1 }
     {
-        match self.slots.get(extension, visits, &mut Visits::new()) {
+        match self.slots.get(extension, visits) {
             [slot, ..] => Some(*slot),
             [] => None,
         }
