@@ -110,9 +110,13 @@ impl GlobSet {
     ///
     /// It adds at most `4 + 2 * (path bytes + 1)`. Each glob that needs an automaton for the path adds `path bytes + 1` times `4
     /// * glob bytes + 4` (`16 * glob bytes + 4` under `whole_character`). The bound also holds after an error; a set without
-    /// globs adds none. The call looks up the path and its parts in four tables and two tries, and runs at most three automata,
-    /// each once. It allocates a bit of memory for each glob above the first 64, and two for each state of an automaton that is
-    /// stepped. The vector grows for the indexes.
+    /// globs adds none. The call looks up the path and its parts in four tables and two tries, and runs at most three automata. Each
+    /// reads the path by published rows and, where one is missing, by the rows of a kept cache, from the beginning; where it has no
+    /// cache, it is stepped. It allocates a bit of memory for each glob above the first 64, and two for each state of an automaton
+    /// that is stepped. The vector grows for the indexes.
+    ///
+    /// It may also make a cache for each of these automata, within [`dfa_size_limit`](crate::GlobSetBuilder::dfa_size_limit). Visits
+    /// do not count that: it reads each state of the automaton, clears the cache's memory, and copies published rows.
     ///
     /// After an error the vector is empty. It allocates nothing if the set has no globs.
     pub fn matches_visits(
@@ -233,8 +237,9 @@ impl GlobSet {
     ///
     /// It adds at most `4 + 2 * (path bytes + 1)`. Each glob that needs an automaton for the path adds `path bytes + 1` times `4
     /// * glob bytes + 4` (`16 * glob bytes + 4` under `whole_character`). The bound also holds after an error; a set without
-    /// globs adds none. The call looks up the path and its parts in four tables and two tries, and runs at most three automata,
-    /// each once. Those that are stepped take two bits of memory for each state.
+    /// globs adds none. The call looks up the path and its parts in four tables and two tries, and runs at most three automata, as
+    /// [`GlobSet::matches_visits`] does. Those that are stepped take two bits of memory for each state, and it may make a cache for
+    /// each of them.
     ///
     /// It allocates nothing if no glob needs an automaton for the path: if each of them is direct, or requires an extension that
     /// the path lacks.
@@ -331,9 +336,9 @@ impl GlobSet {
     ///
     /// It adds at most `4 + 2 * (path bytes + 1)`. Each glob that needs an automaton for the path adds `path bytes + 1` times `4
     /// * glob bytes + 4` (`16 * glob bytes + 4` under `whole_character`). The bound also holds after an error; a set without
-    /// globs adds none. The call looks up the path and its parts in four tables and two tries, and runs at most three automata,
-    /// each once. If any of these has states, it allocates a bit for each glob above the first 64. For an automaton that is
-    /// stepped it allocates two bits for each state.
+    /// globs adds none. The call looks up the path and its parts in four tables and two tries, and runs at most three automata, as
+    /// [`GlobSet::matches_visits`] does. If any of these has states, it allocates a bit for each glob above the first 64. For an
+    /// automaton that is stepped it allocates two bits for each state, and it may make a cache for each automaton.
     ///
     /// It allocates nothing if no glob needs an automaton for the path: if each of them is direct, or requires an extension that
     /// the path lacks.
@@ -452,8 +457,8 @@ impl GlobSet {
     ///
     /// It adds at most `4 + 2 * (directory bytes + 2)`. Each glob that is not direct adds `directory bytes + 2` times
     /// `4 * glob bytes + 4` (`16 * glob bytes + 4` under `whole_character`). The bound also holds after an error; a set without
-    /// globs adds none. The automata of all extensions may be run, each once. Those that are stepped take two bits of memory
-    /// for each state.
+    /// globs adds none. The automata of all extensions may be run, each as [`GlobSet::matches_visits`] runs an automaton. Those that
+    /// are stepped take two bits of memory for each state, and it may make a cache for each of them.
     ///
     /// It allocates nothing if each glob is direct.
     pub fn can_match_below_visits(
