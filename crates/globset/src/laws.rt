@@ -29,8 +29,7 @@ pub fn one_glob_set()
     ensures { OneGlobSet }
 {}
 
-/// If a set matches some path below a directory, [`GlobSet::can_match_below`] returns true for the directory. So a walk that
-/// skips all other directories misses no path.
+/// If a set matches some path below a directory, [`GlobSet::can_match_below`] returns true for the directory.
 pub fn below_has_paths()
     ensures { BelowHasPaths }
 {}
