@@ -8,7 +8,6 @@
 mod byte_set;
 mod byte_sets;
 mod index_set;
-mod lists;
 mod state_set;
 mod visits;
 mod words;
@@ -16,9 +15,5 @@ mod words;
 pub use byte_set::ByteSet;
 pub use byte_sets::ByteSets;
 pub use index_set::IndexSet;
-pub use lists::{
-    copy_within, extend_within, found_count, hash_of, list_indexes, list_of, push_within,
-    put_states, zeros_within,
-};
 pub use state_set::StateSet;
 pub use visits::Visits;

@@ -7,7 +7,6 @@ pub mod Equivalent
 pub mod Accepting
 pub mod Live
 pub mod LastBytes
-pub mod Classes
 pub mod Told
 pub mod Finding
 pub mod After

@@ -1,7 +1,6 @@
 pub mod Views
 pub mod Pass
 pub mod Exits
-pub mod Classes
 pub mod Sources
 pub mod Told
 pub mod Stepping

@@ -8,15 +8,12 @@
 #![tactic(auto)]
 
 mod builder;
-mod classes;
 mod nfa;
-pub mod pass;
 mod simulation;
 mod state;
 pub mod stepping;
 
 pub use builder::Builder;
-pub use classes::ByteClasses;
 pub use nfa::{Nfa, StateRef};
 pub use simulation::Simulation;
 pub use stepping::StateSets;

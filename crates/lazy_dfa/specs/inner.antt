@@ -1,3 +1,6 @@
+pub mod Hashes
+pub mod Index
 pub mod Lists
 pub mod Rows
 pub mod Reached
+pub mod Classes

@@ -7,6 +7,9 @@
 #![tactic(auto)]
 
 mod cache;
+mod classes;
+mod lists;
+mod pass;
 mod rows;
 mod run;
 

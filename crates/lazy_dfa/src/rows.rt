@@ -1,6 +1,6 @@
 //! The rows that a cache holds, and how they are made.
 
-ghost use Rattle.std.specs.Prelude.{◌≡◌, ℕ, ◌+◌, ◌-◌, ◌*◌, ◌<◌, ◌≤◌, ◌↔◌, ◌++◌, ◌∷◌, [], List, length, slice_index, replicate, vec_len, vec_capacity, Some, None, IsTrue, IsFalse, IfOk, IfSome};
+ghost use Rattle.std.specs.Prelude.{◌≡◌, ℕ, ◌+◌, ◌-◌, ◌*◌, ◌<◌, ◌≤◌, ◌↔◌, ◌++◌, ◌∷◌, [], List, length, slice_index, replicate, vec_len, vec_capacity, Some, None, IsTrue, IsFalse, IfOk, IfSome, MatchOption};
 ghost use Rattle.bit_sets.specs.Indexes.{has_index, index_capacity};
 ghost use Rattle.bit_sets.specs.StateSets.{state_capacity};
 ghost use Rattle.bit_sets.specs.Numbers.{has_number, AreBelow};
@@ -10,18 +10,23 @@ ghost use Rattle.byte_nfa.specs.Steps.{NfaValue};
 ghost use Rattle.byte_nfa.specs.Runs.{size, AcceptsFrom, AcceptsIn};
 ghost use Rattle.byte_nfa.specs.EarlyMatches.{half};
 ghost use Rattle.byte_nfa.specs.inner.Sources.{FitsU32};
+ghost use Rattle.std.specs.List.Sorted.{IsStrictlyIncreasing};
+ghost use Rattle.lazy_dfa.specs.inner.Hashes.{list_hash};
+ghost use Rattle.lazy_dfa.specs.inner.Index.{AreFound, IsFree, IsIndexed, nth_place};
 ghost use Rattle.lazy_dfa.specs.inner.Lists.{list_at};
-ghost use Rattle.lazy_dfa.specs.inner.Rows.{AcceptsRow, HasEnds, IsEntry, IsRowOf, IsSound, LeadsTo, MarksAre, AreListed, KeepsRows, HasSpace, states_of, max_entries, marked, BeginsAt, IsAt, IsStep};
+ghost use Rattle.lazy_dfa.specs.inner.Rows.{AcceptsRow, HasEnds, HasNoRow, IsEntry, IsRowOf, IsSound, LeadsTo, MarksAre, AreListed, KeepsRows, HasSpace, with_table_of, states_of, max_entries, marked, BeginsAt, IsAt, IsStep};
 
 mod known;
 mod stepped;
 
-use bit_sets::{
-    IndexSet, StateSet, Visits, copy_within, extend_within, hash_of, list_indexes, list_of,
-    push_within, put_states, zeros_within,
+use crate::classes::ByteClasses;
+use crate::lists::{
+    copy_within, extend_within, hash_of, list_indexes, list_of, push_within, put_in_order,
+    put_states, zeros_within,
 };
-use byte_nfa::pass::read;
-use byte_nfa::{ByteClasses, Nfa};
+use crate::pass::read;
+use bit_sets::{IndexSet, StateSet, Visits};
+use byte_nfa::Nfa;
 use std::alloc::{AllocError, Global};
 use std::mem;
 pub use stepped::GivenUp;
@@ -44,8 +49,9 @@ const MAX_ENTRIES: usize = (MARKED - FIRST) as usize;
 /// Lists have places below this, so that entries have room for those of ends.
 const MAX_PLACES: usize = (u32::MAX - FIRST) as usize;
 
-/// In how many places of the table of rows a list is looked for.
-const PROBES: usize = 8;
+/// In how many places of the table of rows a list is looked for. Half of the places may be taken, so few lists need more than
+/// some.
+const PROBES: usize = 64;
 
 /// The places of the table while there are few rows: it takes time to fill more.
 const FEWEST_PLACES: usize = 1 << 8;
@@ -64,10 +70,19 @@ pub struct Step {
 
 /// How many rows, and how many numbers of lists, a cache has room for.
 #[derive(Clone, Copy)]
-struct Room {
+struct Limits {
     rows: usize,
     /// How many numbers the lists of rows are, with their lengths.
     listed: usize,
+}
+
+/// Room for a row.
+#[derive(Clone, Copy)]
+struct Room {
+    /// The place of the table that is free for its number.
+    place: usize,
+    /// Whether the rows before are still there.
+    is_kept: bool,
 }
 
 /// The row of some states.
@@ -133,6 +148,7 @@ impl Rows {
         automaton.start(&mut from);
         let mut list = Vec::with_capacity(alloc, states)?;
         list_of(&from, states, &mut list, &mut Visits::new());
+        put_in_order(&mut list);
         // The copy has no more room than it needs.
         let mut first = Vec::with_capacity(alloc, list.len())?;
         copy_within(&mut first, &list);
@@ -386,7 +402,8 @@ impl Rows {
         self.entries[end] = place as u32 + FIRST;
     }
 
-    /// Makes `list` what a row leads to by a byte, and `ends` what it leads to without one. It is at most one visit for each state.
+    /// Makes `list` what a row leads to by a byte, in ascending order, and `ends` what it leads to without one. It is at most one visit
+    /// for each state.
     fn read_row(&mut self, automaton: &Nfa, row: usize, byte: u8, visits: &mut Visits)
         // The rows are right for the automaton and stay so, none is forgotten, and the row is one of them.
         requires sound { IsSound automaton.now self.old }
@@ -400,6 +417,7 @@ impl Rows {
             ↔ AcceptsIn automaton.now self.new.list.items y k }
         ensures below { AreBelow (size automaton.now) self.new.list.items }
         ensures few { length self.new.list.items ≤ size automaton.now }
+        ensures ordered { IsStrictlyIncreasing self.new.list.items }
         ensures ends { HasEnds automaton.now self.old row self.new.ends }
 
         // The visits are bounded, and do not become fewer.
@@ -417,6 +435,7 @@ impl Rows {
             &mut self.ends,
             visits,
         );
+        put_in_order(&mut self.list);
     }
 
     /// Writes an entry of a row.
@@ -439,10 +458,11 @@ impl Rows {
     /// Returns the row of the states in `list`, and makes it if it is not there, which is one visit. If there is no room for it, all
     /// rows are forgotten before.
     fn seek(&mut self, automaton: &Nfa, visits: &mut Visits) -> Found
-        // The rows are right for the automaton, and the list has states alone, at most as many as there are.
+        // The rows are right for the automaton. The list has states alone, at most as many as there are, and ascends.
         requires sound { IsSound automaton.now self.old }
         requires below { AreBelow (size automaton.now) self.old.list.items }
         requires few { length self.old.list.items ≤ size automaton.now }
+        requires ordered { IsStrictlyIncreasing self.old.list.items }
 
         // The rows stay right, and the row at the place leads to the ends that the states in the list lead to.
         ensures sound { IsSound automaton.now self.new }
@@ -455,34 +475,33 @@ impl Rows {
         ensures visits { visits.new ≡ visits.old + 1 }
     {
         visits.tick();
-        let mut hash = hash_of(self.seed, &self.list);
+        let hash = hash_of(self.seed, &self.list);
         if let Some(row) = self.known(hash) {
             return Found {
                 place: row * (self.class_count + 1),
                 is_kept: true,
             };
         }
-        let is_kept = self.make_room(automaton);
-        if !is_kept {
-            hash = hash_of(self.seed, &self.list);
-        }
-        let row = self.add(automaton, hash);
+        let room = self.make_room(automaton, hash);
+        let row = self.add(automaton, room.place);
         Found {
             place: row * (self.class_count + 1),
-            is_kept,
+            is_kept: room.is_kept,
         }
     }
 
-    /// Returns the row of the states in `list`, if it is found. There may be another row of the same states, which leads to the
-    /// same ends.
+    /// Returns the row of the states in `list`, or `None` if there is none.
     fn known(&self, hash: u64) -> Option<usize>
-        requires { AreListed self.now }
-        ensures { IfSome result
+        requires listed { AreListed self.now }
+        requires index { IsIndexed self.now.table.items self.now.seed self.now.starts.items
+            self.now.lists.items }
+        requires hash { hash ≡ list_hash self.now.seed self.now.list.items }
+        ensures { MatchOption result (HasNoRow self.now self.now.list.items)
             (λ i. (i < length self.now.starts.items)
             × (states_of self.now i ≡ self.now.list.items)) }
     {
         for probe in 0..PROBES {
-            let number = *self.table.get(place_of(hash, probe, self.table.len()))? as usize;
+            let number = self.table[place_of(hash, probe, self.table.len())] as usize;
             if number == 0 {
                 return None;
             }
@@ -496,26 +515,28 @@ impl Rows {
         None
     }
 
-    /// Makes room for a row of the states in `list`. Returns whether no row was forgotten.
-    fn make_room(&mut self, automaton: &Nfa) -> bool
+    /// Makes room for a row of the states in `list`, whose hash is given, and returns the place for its number in the table. If there
+    /// is none for the row, its list or its number, all rows are forgotten.
+    fn make_room(&mut self, automaton: &Nfa, hash: u64) -> Room
         // The rows are right for the automaton and stay so, and there is room for the row afterwards.
         requires sound { IsSound automaton.now self.old }
         requires few { length self.old.list.items ≤ size automaton.now }
+        requires hash { hash ≡ list_hash self.old.seed self.old.list.items }
         ensures sound { IsSound automaton.now self.new }
-        ensures space { HasSpace self.new }
+        ensures space { HasSpace self.new result.place }
 
-        // No row is forgotten if the result is `true`, and `list` and `ends` do not change.
-        ensures kept { IsTrue result → KeepsRows self.old self.new }
+        // No row is forgotten if the result says so, and none is added. `list` and `ends` do not change.
+        ensures kept { IsTrue result.is_kept → KeepsRows self.old self.new }
+        ensures none { HasNoRow self.old self.old.list.items → HasNoRow self.new self.old.list.items }
         ensures list { self.new.list ≡ self.old.list }
         ensures ends { self.new.ends ≡ self.old.ends }
     {
         let _automaton = automaton;
-        let places = self.lists.capacity().min(MAX_PLACES);
-        if places.saturating_sub(self.lists.len()) > self.list.len()
-            && self.starts.len() < self.starts.capacity().min(MAX_ENTRIES)
-            && self.entries.capacity().min(MAX_ENTRIES) - self.entries.len() > self.class_count
-        {
-            return true;
+        if let Some(place) = self.find_place(hash) {
+            return Room {
+                place,
+                is_kept: true,
+            };
         }
         self.starts.clear();
         self.lists.clear();
@@ -523,16 +544,59 @@ impl Rows {
         self.begin = None;
         self.table.fill(0);
         self.seed = self.seed.wrapping_add(1);
-        false
+        let hash = hash_of(self.seed, &self.list);
+        Room {
+            place: place_of(hash, 0, self.table.len()),
+            is_kept: false,
+        }
     }
 
-    /// Adds a row of the states in `list`, none of whose entries is known. Returns its number.
-    fn add(&mut self, automaton: &Nfa, hash: u64) -> usize
+    /// Returns a free place of the table for the number of a row of the states in `list`, whose hash is given, if there is room for the
+    /// row, its list and its number. Widens the table if it is half full. Without a result the table may lack rows.
+    fn find_place(&mut self, hash: u64) -> Option<usize>
+        // The lists of rows are there, each row is found, and the hash is that of the list.
+        requires listed { AreListed self.old }
+        requires index { IsIndexed self.old.table.items self.old.seed self.old.starts.items
+            self.old.lists.items }
+        requires few { length self.old.starts.items ≤ max_entries }
+        requires small { length self.old.entries.items ≤ max_entries }
+        requires hash { hash ≡ list_hash self.old.seed self.old.list.items }
+
+        // Only the table changes, and it still has a place. With a result there is room, and each row is found.
+        ensures same { self.new ≡ with_table_of self.old self.new }
+        ensures some { 0 < length self.new.table.items }
+        ensures space { IfSome result (HasSpace self.new) }
+        ensures found { IfSome result (λ _. AreFound self.new.table.items self.old.seed
+            self.old.starts.items self.old.lists.items (length self.old.starts.items)) }
+    {
+        let places = self.lists.capacity().min(MAX_PLACES);
+        if places.saturating_sub(self.lists.len()) <= self.list.len() {
+            return None;
+        }
+        if self.starts.len() >= self.starts.capacity().min(MAX_ENTRIES) {
+            return None;
+        }
+        if self.entries.capacity().min(MAX_ENTRIES) - self.entries.len() <= self.class_count {
+            return None;
+        }
+        if !widen_if_full(&mut self.table, self.seed, &self.starts, &self.lists) {
+            return None;
+        }
+        free_place(&self.table, hash)
+    }
+
+    /// Adds a row of the states in `list`, none of whose entries is known, and puts its number into the table at a place. Returns the
+    /// number.
+    fn add(&mut self, automaton: &Nfa, place: usize) -> usize
         // The rows are right for the automaton, with room for one more. The list has states alone, at most as many as there are.
         requires sound { IsSound automaton.now self.old }
-        requires space { HasSpace self.old }
+        requires space { HasSpace self.old place }
         requires below { AreBelow (size automaton.now) self.old.list.items }
         requires few { length self.old.list.items ≤ size automaton.now }
+
+        // The list ascends, and no row has it.
+        requires ordered { IsStrictlyIncreasing self.old.list.items }
+        requires none { HasNoRow self.old self.old.list.items }
 
         // The rows stay right, none is forgotten, `ends` does not change, and the result is the row of the states in the list.
         ensures sound { IsSound automaton.now self.new }
@@ -542,14 +606,13 @@ impl Rows {
         ensures ends { self.new.ends ≡ self.old.ends }
     {
         let _automaton = automaton;
-        widen_if_full(&mut self.table, self.seed, &self.starts, &self.lists);
         let row = self.starts.len();
         let start = self.lists.len();
         push_within(&mut self.lists, self.list.len());
         extend_within(&mut self.lists, &self.list);
         push_within(&mut self.starts, start);
         zeros_within(&mut self.entries, self.class_count + 1);
-        remember(&mut self.table, hash, row);
+        self.table[place] = row as u32 + 1;
         row
     }
 }
@@ -567,7 +630,7 @@ fn states_at<'a>(starts: &[u32], lists: &'a [u32], row: usize) -> &'a [u32]
 }
 
 /// Returns for how much there is room within so many bytes, where some numbers are taken for lists beside those of rows.
-fn room_within(bytes: usize, width: usize, states: usize, taken: usize) -> Room
+fn room_within(bytes: usize, width: usize, states: usize, taken: usize) -> Limits
     requires width { width ≤ 257 }
     requires fits { states < 4294967296 }
     ensures rows { 0 < result.rows }
@@ -585,54 +648,62 @@ fn room_within(bytes: usize, width: usize, states: usize, taken: usize) -> Room
         .max(1);
     // The lists of a row, of its states and of its ends, have at most as many numbers as those that are taken, and two lengths.
     let most_listed = rows.saturating_mul(taken.saturating_add(2));
-    Room {
+    Limits {
         rows,
         listed: listed.min(most_listed).max(states + 1),
     }
 }
 
-/// Returns for how many rows an automaton of so many states has room at most: one for each set of states, and as many again, since
-/// states are listed in different orders. So the cache of a small automaton takes little memory, and is made quickly.
+/// Returns for how many rows an automaton of so many states has room at most: one for each set of states. So the cache of a small
+/// automaton takes little memory, and is made quickly.
 fn most_rows(states: usize) -> usize {
-    FEWEST_PLACES.max(2 << states.min(31))
+    FEWEST_PLACES.max(1 << states.min(31))
 }
 
 /// If half of the places of the table of rows may be taken, makes it twice as large, as far as there is room for that, and puts
-/// each row in again.
-fn widen_if_full(table: &mut Vec<u32>, seed: usize, starts: &[u32], lists: &[u32])
+/// each row in again. Returns `false` if some row has no place then.
+fn widen_if_full(table: &mut Vec<u32>, seed: usize, starts: &[u32], lists: &[u32]) -> bool
+    // There are lists, and the table has a place.
     requires few { length starts.now ≤ max_entries }
     requires lists { (i : ℕ) → i < length starts.now
         → slice_index starts.now i + 1
         + slice_index lists.now (slice_index starts.now i) ≤ length lists.now }
+    requires some { 0 < length table.old.items }
+
+    // The table still has a place. After `true` each row is found in it, if each was found before.
+    ensures some { 0 < length table.new.items }
+    ensures found { IsTrue result
+        → AreFound table.old.items seed starts.now lists.now (length starts.now)
+        → AreFound table.new.items seed starts.now lists.now (length starts.now) }
 {
     if starts.len() < table.len() / 2 || table.len() >= table.capacity() {
-        return;
+        return true;
     }
     let count = table.len().saturating_mul(2).min(table.capacity());
     table.clear();
     zeros_within(table, count);
     for row in 0..starts.len() {
-        remember(table, hash_of(seed, states_at(starts, lists, row)), row);
+        let hash = hash_of(seed, states_at(starts, lists, row));
+        let Some(place) = free_place(table, hash) else {
+            return false;
+        };
+        table[place] = row as u32 + 1;
     }
+    true
 }
 
-/// Puts the number of a row into the table, at the first place that is free of those where it will be looked for. If none is
-/// free, another row is no longer found there.
-fn remember(table: &mut [u32], hash: u64, row: usize)
-    requires { row < max_entries }
-    ensures { length table.new ≡ length table.old }
+/// Returns the first place for a hash that holds no row, if there is one.
+fn free_place(table: &[u32], hash: u64) -> Option<usize>
+    requires { 0 < length table.now }
+    ensures { IfSome result (IsFree table.now hash) }
 {
-    let count = table.len();
-    let mut place = place_of(hash, 0, count);
-    for probe in 1..PROBES {
-        if let Some(0) = table.get(place) {
-            break;
+    for probe in 0..PROBES {
+        let place = place_of(hash, probe, table.len());
+        if table[place] == 0 {
+            return Some(place);
         }
-        place = place_of(hash, probe, count);
     }
-    if let Some(number) = table.get_mut(place) {
-        *number = row as u32 + 1;
-    }
+    None
 }
 
 /// Returns the entry of a class in the row at a place.
@@ -666,7 +737,11 @@ fn step_of(entry: u32) -> Step
     }
 }
 
-/// Returns a place of a table of so many places.
-fn place_of(hash: u64, probe: usize, count: usize) -> usize {
-    (hash as usize).wrapping_add(probe) % count.max(1)
+/// Returns the place of a table of so many places that is looked at for a hash after so many others.
+fn place_of(hash: u64, probe: usize, count: usize) -> usize
+    requires { 0 < count }
+    ensures place { result ≡ nth_place hash probe count }
+    ensures within { result < count }
+{
+    (hash as usize).wrapping_add(probe) % count
 }

@@ -12,8 +12,9 @@ ghost use Rattle.lazy_dfa.specs.inner.Rows.{AcceptsRow, AddsFound, IsAt, IsSound
 ghost use Rattle.lazy_dfa.specs.inner.Reached.{HasRead, IsLeft, IsWhere, IsWhereFrom};
 ghost use Rattle.byte_nfa.specs.inner.Sources.{ListsEnds};
 
+use crate::lists::found_count;
 use crate::rows::{GivenUp, REMEMBERED, Rows};
-use bit_sets::{IndexSet, StateSet, Visits, found_count};
+use bit_sets::{IndexSet, StateSet, Visits};
 use byte_nfa::Nfa;
 use byte_nfa::stepping::tell_ends;
 

@@ -14,7 +14,7 @@ use Rattle.byte_nfa.specs.Equivalent.{AreEquivalent, reads_byte}
 use Rattle.byte_nfa.proofs.lemmas.Equivalent.{accepts_equivalent}
 use Rattle.byte_nfa.specs.Runs.{size, AcceptsFrom, AcceptsIn}
 use Rattle.byte_nfa.proofs.lemmas.Pass.{iff_trans, or_first, accepts_within}
-use Rattle.byte_nfa.specs.EarlyMatches.{half}
+use Rattle.byte_nfa.specs.EarlyMatches.{half, FindsBy}
 use Rattle.lazy_dfa.specs.inner.Lists.{list_at, IsList, IsListOf}
 use Rattle.lazy_dfa.proofs.lemmas.Lists.{list_of_iff, keeps_lists, list_last}
 use Rattle.bit_sets.specs.Bits.{TellsFirstBelow}
@@ -23,7 +23,11 @@ use Rattle.bit_sets.specs.declared.index_set.IndexSet.{IndexSet}
 use Rattle.lazy_dfa.proofs.lemmas.Lists as Lists
 use Rattle.lazy_dfa.specs.declared.rows.Rows.{Rows}
 use Rattle.lazy_dfa.specs.declared.rows.Step.{Step}
-use Rattle.lazy_dfa.specs.inner.Rows.{AcceptsRow, IsNext, IsEnd, IsEntry, IsEntryBy, IsSound, HasEnds, HasMarks, GoesTo, IsDeadBy, HasRoomFor, marked, KeepsRows, states_of, place_of, max_entries, IsAt, BeginsAt, IsStep, LeadsTo, MarksAre}
+use Rattle.std.specs.List.Sorted.{IsStrictlyIncreasing}
+use Rattle.lazy_dfa.specs.inner.Hashes.{list_hash}
+use Rattle.lazy_dfa.specs.inner.Index.{IsFree, IsIndexed}
+use Rattle.lazy_dfa.proofs.lemmas.Index.{index_added, index_kept}
+use Rattle.lazy_dfa.specs.inner.Rows.{AcceptsRow, HasNoRow, IsNext, IsEnd, IsEntry, IsEntryBy, IsSound, HasEnds, HasMarks, GoesTo, IsDeadBy, HasRoomFor, marked, KeepsRows, states_of, place_of, max_entries, IsAt, BeginsAt, IsStep, LeadsTo, MarksAre}
 
 -- places of entries
 
@@ -131,6 +135,10 @@ same_keeps old new is = record {
   class_count = is.class_count;
 }
 
+-- rows are found by their lists
+abbrev pub Indexed : Rows → Type 0
+Indexed rows = IsIndexed rows.table.items rows.seed rows.starts.items rows.lists.items
+
 -- where a run begins
 abbrev pub Begins : NfaValue → Rows → Type 0
 Begins m rows = (p : ℕ) → rows.begin ≡ Some p → BeginsAt m rows p
@@ -142,14 +150,15 @@ begins_at_kept m old new p keeps (j, at, begins) =
 begins_kept : (m : NfaValue) (old new : Rows) → HasSameRows old new → new.begin ≡ old.begin → Begins m old → Begins m new
 begins_kept m old new is begin before p at = begins_at_kept m old new p (same_keeps old new is) (before p (sym begin ∙ at))
 
-pub begun_sound : (m : NfaValue) (old new : Rows) → HasSameRows old new → new.entries.items ≡ old.entries.items → HasRoomFor m new → Begins m new → IsSound m old → IsSound m new
-begun_sound m old new is entries room begins sound = record {
+pub begun_sound : (m : NfaValue) (old new : Rows) → HasSameRows old new → new.entries.items ≡ old.entries.items → Indexed new → HasRoomFor m new → Begins m new → IsSound m old → IsSound m new
+begun_sound m old new is entries index room begins sound = record {
   fits = sound.fits;
   room = room;
   representatives = sound.representatives;
   classes = rw (is.class_of, is.class_count) sound.classes;
   few = rw is.starts sound.few;
   small = rw entries sound.small;
+  index = index;
   lists = rw (is.starts, is.lists) sound.lists;
   counts = rw (is.starts, is.lists) sound.counts;
   len = rw (is.starts, is.class_count, entries) sound.len;
@@ -161,8 +170,37 @@ begun_sound m old new is entries room begins sound = record {
   begins = begins;
 }
 
-pub same_sound : (m : NfaValue) (old new : Rows) → HasSameRows old new → new.entries.items ≡ old.entries.items → new.begin ≡ old.begin → HasRoomFor m new → IsSound m old → IsSound m new
-same_sound m old new is entries begin room sound = begun_sound m old new is entries room (begins_kept m old new is begin sound.begins) sound
+pub same_sound : (m : NfaValue) (old new : Rows) → HasSameRows old new → new.entries.items ≡ old.entries.items → new.begin ≡ old.begin → Indexed new → HasRoomFor m new → IsSound m old → IsSound m new
+same_sound m old new is entries begin index room sound = begun_sound m old new is entries index room (begins_kept m old new is begin sound.begins) sound
+
+-- all rows were forgotten
+pub emptied_sound : (m : NfaValue) (old new : Rows) → new.starts.items ≡ [] → new.entries.items ≡ [] → new.begin ≡ None → 0 < length new.table.items
+    → new.class_of ≡ old.class_of → new.class_count ≡ old.class_count → HasRoomFor m new → IsSound m old → IsSound m new
+emptied_sound m old new starts entries begin some class_of class_count room sound =
+    let none : length new.starts.items ≡ 0 = ap length starts in
+    let empty : length new.entries.items ≡ 0 = ap length entries in
+    record {
+      fits = sound.fits;
+      room = room;
+      representatives = sound.representatives;
+      classes = rw (class_of, class_count) sound.classes;
+      few = omega (arith, none);
+      small = omega (arith, empty);
+      index = record {
+        some = some;
+        found = λ i lt. absurd (omega (arith, lt, none));
+        ordered = λ i lt. absurd (omega (arith, lt, none));
+        distinct = λ i j lt small is. absurd (omega (arith, small, none));
+      };
+      lists = λ i lt. absurd (omega (arith, lt, none));
+      counts = λ i lt. absurd (omega (arith, lt, none));
+      len = rw (starts, entries) (omega arith);
+      known = λ i c lt hc some. absurd (omega (arith, lt, none));
+      begins = λ p at. absurd (none_some p (sym begin ∙ at));
+    }
+  where
+    none_some : (p : ℕ) → None ≡ Some p → ⊥
+    none_some p is = true≢false (sym (ap is_some is))
 
 -- rows with other sets of states
 abbrev pub with_sets : Rows → StateSet → StateSet → Rows
@@ -186,7 +224,7 @@ with_sets rows from next = record {
 pub sets_sound : (m : NfaValue) (rows : Rows) (from next : StateSet) → size m ≤ state_capacity from → size m ≤ state_capacity next → IsSound m rows → IsSound m (with_sets rows from next)
 sets_sound m rows from next in_from in_next sound =
     let room = sound.room in
-    same_sound m rows (with_sets rows from next) record { starts = refl; lists = refl; class_of = refl; class_count = refl } refl refl record {
+    same_sound m rows (with_sets rows from next) record { starts = refl; lists = refl; class_of = refl; class_count = refl } refl refl sound.index record {
       from = in_from;
       next = in_next;
       first = room.first;
@@ -244,16 +282,18 @@ entries_more entries w n i c len lt hc some = ⊎_elim {C = (i < n) × (slice_in
     absurd (omega (arith, none, some)))
     (cases_lt i n)
 
--- a row was added, of the states of a list
-pub record HasAdded (old new : Rows) (list : List ℕ) : Type 0 where
+-- a row was added, of the states of a list, and its number was put into the table
+pub record HasAdded (old new : Rows) (list : List ℕ) (place : ℕ) : Type 0 where
   pub lists : new.lists.items ≡ old.lists.items ++ length list ∷ list
   pub starts : new.starts.items ≡ old.starts.items ++ length old.lists.items ∷ []
   pub entries : new.entries.items ≡ old.entries.items ++ replicate (old.class_count + 1) 0
+  pub table : new.table.items ≡ slice_set old.table.items place (length old.starts.items + 1)
+  pub seed : new.seed ≡ old.seed
   pub class_of : new.class_of ≡ old.class_of
   pub class_count : new.class_count ≡ old.class_count
   pub begin : new.begin ≡ old.begin
 
-module _ (m : NfaValue) (old new : Rows) (list : List ℕ) (is : HasAdded old new list) (sound : IsSound m old) where
+module _ (m : NfaValue) (old new : Rows) (list : List ℕ) (place : ℕ) (is : HasAdded old new list place) (sound : IsSound m old) where
   more_starts : length new.starts.items ≡ length old.starts.items + 1
   more_starts = ap length is.starts ∙ length-append old.starts.items (length old.lists.items ∷ [])
 
@@ -288,8 +328,13 @@ module _ (m : NfaValue) (old new : Rows) (list : List ℕ) (is : HasAdded old ne
     below = subst (λ l. (x : ℕ) → x < length l → slice_index l x < size m) (sym last_list) below;
   }
 
-  pub added_sound : AreBelow (size m) list → length list ≤ size m → length old.starts.items < max_entries → length old.entries.items + old.class_count < max_entries → HasRoomFor m new → IsSound m new
-  added_sound below short few small room = record {
+  added_index : IsFree old.table.items (list_hash old.seed list) place → IsStrictlyIncreasing list → HasNoRow old list → Indexed new
+  added_index free ordered none =
+      rw (is.table, is.seed) (index_added old.table.items old.seed old.starts.items new.starts.items old.lists.items new.lists.items list place more_starts added_keeps.states added_states free ordered none sound.index)
+
+  pub added_sound : AreBelow (size m) list → length list ≤ size m → IsFree old.table.items (list_hash old.seed list) place → IsStrictlyIncreasing list → HasNoRow old list
+      → length old.starts.items < max_entries → length old.entries.items + old.class_count < max_entries → HasRoomFor m new → IsSound m new
+  added_sound below short free ordered none few small room = record {
     fits = sound.fits;
     room = room;
     representatives = sound.representatives;
@@ -299,6 +344,7 @@ module _ (m : NfaValue) (old new : Rows) (list : List ℕ) (is : HasAdded old ne
         let both = ap length is.entries ∙ length-append old.entries.items (replicate (old.class_count + 1) 0) in
         let zeros_len = length-replicate {A = ℕ} (old.class_count + 1) 0 in
         omega (arith, both, zeros_len, small);
+    index = added_index free ordered none;
     lists = λ i lt. ⊎_elim {C = IsList new.lists.items (size m) (slice_index new.starts.items i)}
         (λ before. rw (is.lists, is.starts) (list_kept old.lists.items (length list ∷ list) old.starts.items (length old.lists.items ∷ []) (size m) i before (sound.lists i before)).1)
         (λ past. let this : i ≡ length old.starts.items = omega (arith, more_starts) in
@@ -336,15 +382,16 @@ in_range from end set None r is none = (
 in_range from end set (Some k) r is (low, high, at, before) = (λ _. (k, low, high, at), λ _. is)
 
 -- one entry of the rows was written
-pub written_sound : (m : NfaValue) (old new : Rows) (row column e : ℕ) → HasSameRows old new → new.entries.items ≡ slice_set old.entries.items (place_of old row column) e → new.begin ≡ old.begin → HasRoomFor m new
+pub written_sound : (m : NfaValue) (old new : Rows) (row column e : ℕ) → HasSameRows old new → new.entries.items ≡ slice_set old.entries.items (place_of old row column) e → new.begin ≡ old.begin → Indexed new → HasRoomFor m new
     → row < length old.starts.items → column ≤ old.class_count → IsEntry m old row column e → IsSound m old → IsSound m new
-written_sound m old new row column e is entries begin room here short entry sound = record {
+written_sound m old new row column e is entries begin index room here short entry sound = record {
   fits = sound.fits;
   room = room;
   representatives = sound.representatives;
   classes = rw (is.class_of, is.class_count) sound.classes;
   few = rw is.starts sound.few;
   small = let len = ap length entries ∙ length-set old.entries.items (place_of old row column) e in let before = sound.small in omega (arith, len, before);
+  index = index;
   lists = rw (is.starts, is.lists) sound.lists;
   counts = rw (is.starts, is.lists) sound.counts;
   len = rw (is.starts, is.class_count, entries) (length-set old.entries.items (place_of old row column) e ∙ sound.len);
@@ -473,6 +520,8 @@ pub record HasListed (old new : Rows) (row : ℕ) (list : List ℕ) : Type 0 whe
   pub lists : new.lists.items ≡ old.lists.items ++ length list ∷ list
   pub starts : new.starts.items ≡ old.starts.items
   pub entries : new.entries.items ≡ slice_set old.entries.items (place_of old row old.class_count) (length old.lists.items + 2)
+  pub table : new.table.items ≡ old.table.items
+  pub seed : new.seed ≡ old.seed
   pub class_of : new.class_of ≡ old.class_of
   pub class_count : new.class_count ≡ old.class_count
   pub begin : new.begin ≡ old.begin
@@ -496,6 +545,7 @@ module _ (m : NfaValue) (old new : Rows) (row : ℕ) (list : List ℕ) (is : Has
     classes = rw (is.class_of, is.class_count) sound.classes;
     few = rw is.starts sound.few;
     small = let len = ap length is.entries ∙ length-set old.entries.items (place_of old row old.class_count) (length old.lists.items + 2) in let before = sound.small in omega (arith, len, before);
+    index = rw (is.table, is.seed) (index_kept old.table.items old.seed old.starts.items new.starts.items old.lists.items new.lists.items (rw is.starts refl) listed_keeps.states sound.index);
     lists = λ i lt. let before : i < length old.starts.items = rw is.starts at lt in
         rw (is.lists, is.starts) ((keeps_lists old.lists.items (length list ∷ list)).1 (size m) (slice_index old.starts.items i) (sound.lists i before)).0;
     counts = λ i lt. let before : i < length old.starts.items = rw is.starts at lt in
@@ -532,6 +582,9 @@ nothing_listed m (x ∷ xs) none y k a = absurd (omega (arith, none))
 -- an automaton with no states leads to no end
 pub none_reached : (m : NfaValue) → size m ≡ 0 → (y : List ℕ) (k : ℕ) → IsReached m y k → ⊥
 none_reached m none y k (s, begins, h) = let lt = accepts_within m.states k s y h in absurd (omega (arith, lt, none))
+
+pub never_found : (m : NfaValue) → size m ≡ 0 → (y : List ℕ) (k : ℕ) → FindsBy (half m) (IsReached m) y k → ⊥
+never_found m none y k (lt, found) = ⊎_elim {C = ⊥} (λ r. none_reached m none y k r) (λ (p, q, is, r). none_reached m none p (half m + k) r) found
 
 -- there is one row at a place
 pub one_row : (rows : Rows) (i j p : ℕ) → IsAt rows i p → IsAt rows j p → i ≡ j

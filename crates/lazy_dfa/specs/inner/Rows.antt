@@ -1,5 +1,6 @@
 -- The rows of a cache.
 use Rattle.std.specs.Prelude.{◌≡◌, ℕ, ◌+◌, ◌-◌, ◌*◌, ◌<◌, ◌≤◌, ◌⊎◌, ◌↔◌, List, [], ◌∷◌, Option, Some, length, slice_index, vec_capacity, IsTrue, MatchOption}
+use Rattle.std.specs.List.Sorted.{IsStrictlyIncreasing}
 use Rattle.bit_sets.specs.declared.index_set.IndexSet.{IndexSet}
 use Rattle.bit_sets.specs.Indexes.{has_index, index_capacity}
 use Rattle.bit_sets.specs.StateSets.{state_capacity}
@@ -8,7 +9,9 @@ use Rattle.byte_nfa.specs.Steps.{NfaValue, IsReached}
 use Rattle.byte_nfa.specs.Runs.{size, AcceptsIn}
 use Rattle.byte_nfa.specs.EarlyMatches.{half, FindsBy}
 use Rattle.byte_nfa.specs.inner.Sources.{FitsU32}
-use Rattle.byte_nfa.specs.inner.Classes.{AreEquivalenceClasses}
+use Rattle.lazy_dfa.specs.inner.Classes.{AreEquivalenceClasses}
+use Rattle.lazy_dfa.specs.inner.Index.{IsFree, IsIndexed}
+use Rattle.lazy_dfa.specs.inner.Hashes.{list_hash}
 use Rattle.lazy_dfa.specs.inner.Lists.{list_at, IsList, IsListOf, KeepsLists}
 use Rattle.lazy_dfa.specs.declared.rows.Rows.{Rows}
 use Rattle.lazy_dfa.specs.declared.rows.Step.{Step}
@@ -118,6 +121,7 @@ max_entries = 2147483646
 pub record IsFirst (m : NfaValue) (list : List ℕ) : Type 0 where
   pub below : AreBelow (size m) list
   pub few : length list ≤ size m
+  pub ordered : IsStrictlyIncreasing list
   pub accepts : (y : List ℕ) (k : ℕ) → AcceptsIn m list y k ↔ IsReached m y k
 
 -- there is room for a row with any states, and for a pass, and the states in which a run begins are known
@@ -144,6 +148,7 @@ pub record IsSound (m : NfaValue) (rows : Rows) : Type 0 where
   pub classes : AreEquivalenceClasses m.states rows.class_of representatives rows.class_count
   pub few : length rows.starts.items ≤ max_entries
   pub small : length rows.entries.items ≤ max_entries
+  pub index : IsIndexed rows.table.items rows.seed rows.starts.items rows.lists.items
   pub lists : (i : ℕ) → i < length rows.starts.items → IsList rows.lists.items (size m) (slice_index rows.starts.items i)
   pub counts : (i : ℕ) → i < length rows.starts.items → length (states_of rows i) ≤ size m
   pub len : length rows.entries.items ≡ length rows.starts.items * (rows.class_count + 1)
@@ -159,8 +164,32 @@ pub record KeepsRows (old new : Rows) : Type 0 where
   pub class_of : new.class_of ≡ old.class_of
   pub class_count : new.class_count ≡ old.class_count
 
--- there is room for a row of the states in the list
-pub record HasSpace (rows : Rows) : Type 0 where
+-- the rows with the table of others
+abbrev pub with_table_of : Rows → Rows → Rows
+with_table_of rows others = record {
+  class_of = rows.class_of;
+  class_count = rows.class_count;
+  starts = rows.starts;
+  lists = rows.lists;
+  entries = rows.entries;
+  table = others.table;
+  seed = rows.seed;
+  begin = rows.begin;
+  first = rows.first;
+  from = rows.from;
+  next = rows.next;
+  ends = rows.ends;
+  list = rows.list;
+  told = rows.told;
+}
+
+-- no row has the states of the list
+abbrev pub HasNoRow : Rows → List ℕ → Type 0
+HasNoRow rows list = (i : ℕ) → i < length rows.starts.items → states_of rows i ≡ list → ⊥
+
+-- there is room for a row of the states in the list, and its number has a place in the table
+pub record HasSpace (rows : Rows) (place : ℕ) : Type 0 where
+  pub free : IsFree rows.table.items (list_hash rows.seed rows.list.items) place
   pub lists : length rows.lists.items + length rows.list.items < vec_capacity rows.lists
   pub places : length rows.lists.items < 4294967296
   pub starts : length rows.starts.items < vec_capacity rows.starts

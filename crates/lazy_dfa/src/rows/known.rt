@@ -10,7 +10,8 @@ ghost use Rattle.lazy_dfa.specs.inner.Lists.{list_at, IsList};
 ghost use Rattle.lazy_dfa.specs.inner.Rows.{AcceptsRow, AddsFound, AddsMarks, HasTold, IsSound, IsAt, IsPlainStep, IsStep, IsToldStep, max_entries};
 
 use super::{FIRST, MARKED, REMEMBERED, Rows, Step, UNKNOWN, entry_at, step_of};
-use bit_sets::{IndexSet, Visits, copy_within};
+use crate::lists::copy_within;
+use bit_sets::{IndexSet, Visits};
 use byte_nfa::Nfa;
 use byte_nfa::stepping::told_by;
 

@@ -9,8 +9,9 @@ ghost use Rattle.lazy_dfa.specs.inner.Reached.{HasRead, IsLeft, IsWhereBy};
 ghost use Rattle.lazy_dfa.specs.inner.Rows.{AcceptsRow, AddsFound, IsAt, IsRowOf, IsSound};
 
 use super::{Rows, states_at};
+use crate::lists::{list_of, put_in_order, put_states};
 use crate::run::{Left, Reached};
-use bit_sets::{IndexSet, Visits, list_of, put_states};
+use bit_sets::{IndexSet, Visits};
 use byte_nfa::Nfa;
 use byte_nfa::stepping::{self, Led};
 
@@ -176,6 +177,7 @@ impl Rows {
         ensures counted { visits.old ≤ visits.new }
     {
         list_of(&self.from, automaton.state_count(), &mut self.list, visits);
+        put_in_order(&mut self.list);
         self.seek(automaton, visits).place
     }
 }

@@ -14,6 +14,8 @@ returns-clause-kept c =
           ∙ ap (λ l. rows.lists.items ++ c.len-2.result ∷ l) c.deref.ensures.value ∙ ap (λ n. rows.lists.items ++ n ∷ list) count;
       starts = refl;
       entries = rw place refl;
+      table = refl;
+      seed = refl;
       class_of = refl;
       class_count = refl;
       begin = refl;
@@ -37,6 +39,8 @@ returns-clause-sound c =
           ∙ ap (λ l. rows.lists.items ++ c.len-2.result ∷ l) c.deref.ensures.value ∙ ap (λ n. rows.lists.items ++ n ∷ list) count;
       starts = refl;
       entries = rw place refl;
+      table = refl;
+      seed = refl;
       class_of = refl;
       class_count = refl;
       begin = refl;
@@ -58,7 +62,7 @@ returns-clause-sound c =
 pub returns-then-not-list_indexes-clause-sound : goal.returns-then-not-list_indexes-clause-sound
 returns-then-not-list_indexes-clause-sound c =
     let room = c.requires.sound.room in
-    same_sound c.args.automaton.now c.args.self.now _ record { starts = refl; lists = refl; class_of = refl; class_count = refl } refl refl record {
+    same_sound c.args.automaton.now c.args.self.now _ record { starts = refl; lists = refl; class_of = refl; class_count = refl } refl refl c.requires.sound.index record {
       from = room.from;
       next = room.next;
       first = room.first;
@@ -73,7 +77,7 @@ returns-then-not-list_indexes-clause-sound c =
 pub returns-then-capacity-place-clause-sound : goal.returns-then-capacity-place-clause-sound
 returns-then-capacity-place-clause-sound c =
     let room = c.requires.sound.room in
-    same_sound c.args.automaton.now c.args.self.now _ record { starts = refl; lists = refl; class_of = refl; class_count = refl } refl refl record {
+    same_sound c.args.automaton.now c.args.self.now _ record { starts = refl; lists = refl; class_of = refl; class_count = refl } refl refl c.requires.sound.index record {
       from = room.from;
       next = room.next;
       first = room.first;

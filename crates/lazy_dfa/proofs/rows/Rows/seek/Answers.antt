@@ -12,14 +12,14 @@ returns-in-Some-clause-row c =
 pub returns-clause-row : goal.returns-clause-row
 returns-clause-row c =
     let m = c.args.automaton.now in
-    let same = rw c.make_room-is_kept.ensures.list at c.add-row.ensures.states in
+    let same = rw c.make_room-room.ensures.list at c.add-row.ensures.states in
     (c.add-row.result, (c.add-row.ensures.row, refl), λ y k. (λ a. subst (λ l. AcceptsIn m l y k) (sym same) a, λ a. subst (λ l. AcceptsIn m l y k) same a))
 
 pub returns-clause-kept : goal.returns-clause-kept
 returns-clause-kept c = λ on.
     let old = c.args.self.now in
-    let room = c.make_room-is_kept.new.self in
-    let first = c.make_room-is_kept.ensures.kept on in
+    let room = c.make_room-room.new.self in
+    let first = c.make_room-room.ensures.kept on in
     let second = c.add-row.ensures.kept in
     record {
       more = omega (arith, first.more, second.more);

@@ -9,7 +9,7 @@ returns-in-Some-clause-begins c = c.requires.begins c.in-Some.place c.in-Some.is
 pub seek-found-requires-clause-sound : goal.seek-found-requires-clause-sound
 seek-found-requires-clause-sound c =
     let room = c.requires.room in
-    same_sound c.args.automaton.now c.args.self.now _ record { starts = refl; lists = refl; class_of = refl; class_count = refl } refl refl record {
+    same_sound c.args.automaton.now c.args.self.now _ record { starts = refl; lists = refl; class_of = refl; class_count = refl } refl refl c.requires.index record {
       from = room.from;
       next = room.next;
       first = room.first;
@@ -32,7 +32,7 @@ returns-clause-sound c =
     let sound = c.seek-found.ensures.sound in
     let loaded = c.copy_within.ensures.items ∙ c.deref.ensures.value in
     let room = sound.room in
-    begun_sound c.args.automaton.now c.seek-found.new.self _ record { starts = refl; lists = refl; class_of = refl; class_count = refl } refl record {
+    begun_sound c.args.automaton.now c.seek-found.new.self _ record { starts = refl; lists = refl; class_of = refl; class_count = refl } refl sound.index record {
       from = room.from;
       next = room.next;
       first = room.first;
@@ -46,3 +46,6 @@ returns-clause-sound c =
     let same : c.seek-found.result.place ≡ p = cc in
     let (j, here, states) = c.seek-found.ensures.row in
     rw (sym same) (j, here, λ y k. iff_trans (iff_sym (states y k)) (rw loaded (c.requires.room.first.accepts y k)))) sound
+
+pub seek-found-requires-clause-ordered : goal.seek-found-requires-clause-ordered
+seek-found-requires-clause-ordered c = rw (c.copy_within.ensures.items, c.deref.ensures.value) c.requires.room.first.ordered

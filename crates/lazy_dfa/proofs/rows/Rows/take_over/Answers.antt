@@ -10,7 +10,8 @@ returns c = λ m sound other.
       lists = c.copy_within-2.ensures.items ∙ c.deref-2.ensures.value;
       class_of = refl;
       class_count = omega (arith, c.if-other-self.false);
-    } (c.copy_within-3.ensures.items ∙ c.deref-3.ensures.value) refl record {
+    } (c.copy_within-3.ensures.items ∙ c.deref-3.ensures.value) refl
+    (rw (c.copy_within-4.ensures.items, c.deref-4.ensures.value, c.copy_within.ensures.items, c.deref.ensures.value, c.copy_within-2.ensures.items, c.deref-2.ensures.value) other.index) record {
       from = room.from;
       next = room.next;
       first = room.first;

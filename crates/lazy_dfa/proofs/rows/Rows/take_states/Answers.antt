@@ -18,7 +18,7 @@ put_states-requires c =
 pub returns-clause-sound : goal.returns-clause-sound
 returns-clause-sound c =
     let room = c.requires.sound.room in
-    same_sound c.args.automaton.now c.args.self.now _ record { starts = refl; lists = refl; class_of = refl; class_count = refl } refl refl record {
+    same_sound c.args.automaton.now c.args.self.now _ record { starts = refl; lists = refl; class_of = refl; class_count = refl } refl refl c.requires.sound.index record {
       from = omega (arith, room.from, c.clear.ensures.room, c.put_states.ensures.room);
       next = room.next;
       first = room.first;
