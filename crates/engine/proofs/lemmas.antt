@@ -1,5 +1,4 @@
 -- Lemmas by topic.
-pub mod Compiled
 pub mod Numbers
 pub mod Pools
 pub mod Rows

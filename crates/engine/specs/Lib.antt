@@ -1,3 +1,2 @@
 pub mod Matching
-pub mod ScratchValue
 pub mod inner

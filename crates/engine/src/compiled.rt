@@ -1,12 +1,12 @@
-//! Automata as they are run over paths.
+//! Automata as they are run over texts.
 
-ghost use Rattle.std.specs.Prelude.{◌≡◌, ℕ, ◌+◌, ◌*◌, ◌≤◌, ◌↔◌, ◌++◌, ◌∷◌, [], List, length, IsTrue, IsOk, OnOk, IfOk, IfSome, false};
+ghost use Rattle.std.specs.Prelude.{◌≡◌, ℕ, ◌+◌, ◌*◌, ◌≤◌, ◌↔◌, ◌++◌, ◌∷◌, [], length, IsTrue, IsOk, OnOk, IfOk, IfSome, false};
 ghost use Rattle.byte_nfa.specs.Runs.{size, max_reads};
 ghost use Rattle.byte_nfa.specs.Steps.{IsReached};
 ghost use Rattle.bit_sets.specs.Indexes.{index_capacity};
 ghost use Rattle.byte_nfa.specs.Sets.{sets_capacity};
-ghost use Rattle.glob_strategy.specs.IndexedTokens.{IndexedTokens, IsFor, SomeMeanAfter};
-ghost use Rattle.engine.specs.Matching.{AddsMatches, AddsReached, TellsMatch};
+ghost use Rattle.byte_nfa.specs.Live.{MatchesAfter};
+ghost use Rattle.engine.specs.Matching.{AddsReached};
 
 use crate::rows::RowSource;
 use crate::sharing::shared;
@@ -127,8 +127,8 @@ impl Compiled {
 }
 
 impl Compiled {
-    /// Puts the indexes of the tokens that match a text into a set, next to its contents. It reads the rows of the cache if there
-    /// is a cache. Otherwise it reads kept rows, or steps the automaton.
+    /// Puts the index of each end that a text leads to into a set, next to its contents. It reads the rows of the cache if there is
+    /// a cache. Otherwise it reads kept rows, or steps the automaton.
     ///
     /// It is at most `(text bytes + 1) * (states + 3 * starts)` visits. The old contents of the sets of states have no effect. If
     /// the automaton is stepped, their room grows to its states. It allocates nothing if they have room for all states. After an
@@ -147,9 +147,8 @@ impl Compiled {
         ensures cache { cache.new ≡ cache.old }
         ensures room { index_capacity found.new ≡ index_capacity found.old }
 
-        // Success adds the index of each end that the text leads to. These are the indexes of the tokens that match it.
+        // Success adds the index of each end that the text leads to.
         ensures reached { OnOk result (AddsReached self.now text.now found.old found.new) }
-        ensures found { OnOk result (AddsMatches self.now text.now found.old found.new) }
 
         // The capacity of the sets of states is never lower than before. With room for each state the call succeeds.
         ensures kept { sets_capacity sets.old ≤ sets_capacity sets.new }
@@ -174,7 +173,7 @@ impl Compiled {
         self.simulation.find(text, sets, found, visits)
     }
 
-    /// Returns whether tokens match a text.
+    /// Returns whether a text leads to some end.
     ///
     /// It makes at most as many visits as [`Compiled::find`], and allocates when that does.
     pub fn is_match(
@@ -184,10 +183,11 @@ impl Compiled {
         cache: &mut Option<Cache>,
         visits: &mut Visits,
     ) -> Result<bool, AllocError>
-        // A given cache is for this automaton, and stays so. The result says whether tokens match the text.
+        // A given cache is for this automaton, and stays so. The result says whether the text leads to some end.
         requires { IfSome cache.old (λ c. c ≡ self.now) }
         ensures cache { cache.new ≡ cache.old }
-        ensures some { IfOk result (λ yes. TellsMatch self.now text.now yes) }
+        ensures some { IfOk result
+            (λ yes. IsTrue yes ↔ ((k : ℕ) × IsReached self.now text.now k)) }
 
         // The capacity of the sets of states is never lower than before. With room for each state the call succeeds.
         ensures kept { sets_capacity sets.old ≤ sets_capacity sets.new }
@@ -211,7 +211,7 @@ impl Compiled {
         self.simulation.is_match(text, sets, visits)
     }
 
-    /// Returns whether some tokens match a text that begins with `text` and then `byte`.
+    /// Returns whether some text that begins with `text` and then `byte` leads to some end.
     ///
     /// It is at most `(text bytes + 2) * (states + 3 * starts)` visits, and allocates when [`Compiled::find`]
     /// does.
@@ -223,12 +223,11 @@ impl Compiled {
         cache: &mut Option<Cache>,
         visits: &mut Visits,
     ) -> Result<bool, AllocError>
-        // A given cache is for this automaton, and stays so. The result says whether tokens match some text that begins so.
+        // A given cache is for this automaton, and stays so. The result says whether some text that begins so leads to some end.
         requires { IfSome cache.old (λ c. c ≡ self.now) }
         ensures cache { cache.new ≡ cache.old }
         ensures some { IfOk result
-            (λ yes. (xs : List IndexedTokens) → IsFor self.now xs
-            → IsTrue yes ↔ SomeMeanAfter xs (text.now ++ byte ∷ [])) }
+            (λ yes. IsTrue yes ↔ MatchesAfter self.now (text.now ++ byte ∷ [])) }
 
         // The capacity of the sets of states is never lower than before. With room for each state the call succeeds.
         ensures kept { sets_capacity sets.old ≤ sets_capacity sets.new }

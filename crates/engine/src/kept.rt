@@ -80,7 +80,7 @@ pub const MOST_KEPT: usize = 4;
 /// The bytes of the first cache. Where rows do not fit, the next one takes four times as many, too.
 const FIRST_BYTES: usize = 4 * FEWEST_BYTES;
 
-/// How many calls find no cache before one makes the first. So a set that matches few paths takes no memory for caches.
+/// How many calls find no cache before one makes the first. So an automaton that is run over few texts takes no memory for caches.
 const FIRST_CALLS: usize = 2;
 
 /// How many calls use a cache before it is published, if it is the first.

@@ -26,7 +26,7 @@ pub struct RowSource {
     simulation: Arc<Simulation>,
     /// How many bytes the rows of a cache take at most.
     cache_bytes: usize,
-    /// In a box, since the pool has room between its places, and a set may have many automata.
+    /// In a box, since the pool has room between its places, and a caller may have many automata.
     kept: Box<KeptCaches>,
     source: Snapshot<Nfa>,
 }
@@ -229,10 +229,10 @@ impl RowSource {
 }
 
 /// The most bytes of the caches of a searcher together, and of a kept cache, under any limit. So a searcher can be made under any
-/// limit. More than 8 MB hardly changed the time of a path.
+/// limit. More than 8 MB hardly changed the time of a text.
 const MOST_BYTES: usize = 1 << 23;
 
-/// An automaton whose share is smaller has no cache. Then many automata share the limit, and a path runs few of them.
+/// An automaton whose share is smaller has no cache. Then many automata share the limit, and few of them run for a text.
 pub const FEWEST_BYTES: usize = 1 << 12;
 
 /// Returns an automaton's share of `bytes`, by its number of states among those of all automata.

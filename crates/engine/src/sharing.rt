@@ -1,8 +1,8 @@
 //! Automata in which texts that begin alike share states.
 //!
-//! An automaton for many globs begins in a state of each, and most texts lead to states of many of them. [`shared`] makes an
-//! automaton that leads to the same ends and begins in one state. There one state stands for all that a text may lead to by steps
-//! of one kind with the same bytes, so a run goes through smaller sets of states. Each state is made for a list of states.
+//! An automaton may have many starts, and most texts lead to states from many of them. [`shared`] makes an automaton that leads
+//! to the same ends and begins in one state. There one state stands for all that a text may lead to by steps of one kind with the
+//! same bytes, so a run goes through smaller sets of states. Each state is made for a list of states.
 
 ghost use Rattle.std.specs.Prelude.{◌≡◌, ◌+◌, ◌≤◌, [], IsTrue, IfOk, IfSome, ◌⊎◌, ℕ, List, OnOk, ◌<◌, length};
 ghost use Rattle.byte_nfa.specs.Runs.{size};

@@ -1,7 +1,7 @@
 -- Sets and builders as contracts see them: as lists of globs; and which scratches fit a set.
 use Rattle.std.specs.Prelude.{List, length}
 use Rattle.globset_glob.specs.GlobMatches.{GlobValue}
-pub use Rattle.engine.specs.ScratchValue.{FitsAsBefore, FitsMatcher, HasCapacity, ScratchValue, raised}
+pub use Rattle.globset_glob.specs.ScratchValue.{FitsAsBefore, FitsMatcher, HasCapacity, ScratchValue, raised}
 pub use Rattle.set_matcher.specs.SetValue.{SetValue, set_globs, set_states}
 
 -- A builder is seen as the list of the globs that were added, the first first.

@@ -162,7 +162,13 @@ impl Searcher {
             return true;
         };
         matcher
-            .matches_all(path, &mut self.scratch, &mut self.caches, visits)
+            .matches_all(
+                path,
+                &mut self.scratch.sets,
+                &mut self.scratch.marks,
+                &mut self.caches,
+                visits,
+            )
             .unwrap()
     }
 
@@ -192,7 +198,8 @@ impl Searcher {
         matcher
             .find(
                 path,
-                &mut self.scratch,
+                &mut self.scratch.sets,
+                &mut self.scratch.marks,
                 &mut self.caches,
                 &mut self.found,
                 visits,

@@ -1,5 +1,6 @@
 pub mod Values
 pub mod GlobBelow
+pub mod ScratchValue
 pub mod inner
 pub use Rattle.glob_text.specs.GlobMatches
 pub use Rattle.glob_text.specs.Cost

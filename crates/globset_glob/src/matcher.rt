@@ -2,7 +2,7 @@
 
 ghost use Rattle.std.specs.Prelude.{◌≡◌, ◌+◌, ◌≤◌, ◌↔◌, IfOk, IsOk, IsOkUnless, IsTrue, IfSome};
 ghost use Rattle.byte_nfa.specs.Sets.{sets_capacity};
-ghost use Rattle.engine.specs.ScratchValue.{FitsMatcher};
+ghost use Rattle.globset_glob.specs.ScratchValue.{FitsMatcher};
 ghost use Rattle.glob_text.specs.Errors.{out_of_memory};
 ghost use Rattle.glob_text.specs.Cost.{cost, max_visits, max_visits_below};
 ghost use Rattle.globset_glob.specs.GlobBelow.{GlobMatchesBelow};
@@ -10,9 +10,10 @@ ghost use Rattle.glob_text.specs.GlobMatches.{GlobValue, glob_matches};
 ghost use Rattle.globset_glob.specs.inner.GlobNfa.{IsAutomatonOf, IsCacheOf, IsStrategyOfMatcher, form_states};
 
 use crate::glob::{Glob, flat_tokens_of, options_of};
+use crate::scratch::{NeedsScratch, Scratch};
 use bit_sets::Visits;
 use byte_nfa::StateSets;
-use engine::{Compiled, DEFAULT_DFA_SIZE_LIMIT, NeedsScratch, Scratch};
+use engine::{Compiled, DEFAULT_DFA_SIZE_LIMIT};
 use glob_path::{AsPath, Candidate, Key};
 use glob_strategy::{MatchStrategy, add_tokens, new_builder, strategy_of};
 use glob_text::Error;

@@ -1,9 +1,9 @@
 //! The rows that automata keep from path to path.
 
-ghost use Rattle.std.specs.Prelude.{◌≡◌, ◌+◌, ◌*◌, ◌≤◌, ◌++◌, ◌∷◌, ◌↔◌, [], List, length, None, Some, IsTrue, IsOk, IfOk};
+ghost use Rattle.std.specs.Prelude.{◌≡◌, ◌+◌, ◌*◌, ◌≤◌, ◌++◌, ◌∷◌, ◌↔◌, [], length, None, Some, IsTrue, IsOk, IfOk};
+ghost use Rattle.byte_nfa.specs.Live.{MatchesAfter};
 ghost use Rattle.byte_nfa.specs.Runs.{size, max_reads};
 ghost use Rattle.byte_nfa.specs.Steps.{NfaValue};
-ghost use Rattle.glob_strategy.specs.IndexedTokens.{IndexedTokens, IsFor, SomeMeanAfter};
 ghost use Rattle.byte_nfa.specs.Sets.{sets_capacity};
 ghost use Rattle.set_matcher.specs.inner.Automata.{AutomataParts};
 ghost use Rattle.set_matcher.specs.inner.Caches.{AreCachesOf, IsCacheAt};
@@ -130,8 +130,7 @@ impl SlotCaches {
         requires { IsCacheAt self.old slot automaton.now }
         ensures caches { self.new ≡ self.old }
         ensures some { IfOk result
-            (λ yes. (xs : List IndexedTokens) → IsFor automaton.now xs
-            → IsTrue yes ↔ SomeMeanAfter xs (text.now ++ byte ∷ [])) }
+            (λ yes. IsTrue yes ↔ MatchesAfter automaton.now (text.now ++ byte ∷ [])) }
 
         // The sets lose no room. Memory runs out only if they have too little room for the automaton's states.
         ensures kept { sets_capacity sets.old ≤ sets_capacity sets.new }

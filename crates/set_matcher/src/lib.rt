@@ -2,8 +2,8 @@
 //! `globset` and `c_objects` use it, and neither re-exports it.
 //!
 //! [`SetMatcherBuilder`] takes globs in order, and puts the tokens of each where its strategy says. [`SetMatcher`] looks up keys
-//! for the globs that a key decides, and runs automata for the others. They work in a [`Scratch`](engine::Scratch), and
-//! may keep rows of automata from path to path in [`Caches`].
+//! for the globs that a key decides, and runs automata for the others. They work in memory of the caller, and may keep rows of
+//! automata from path to path in [`Caches`].
 #![tactic(auto)]
 
 mod automata;

@@ -14,8 +14,8 @@ ghost use Rattle.set_matcher.specs.inner.Caches.{AreCachesOf};
 ghost use Rattle.set_matcher.specs.inner.Automata.{automata_or_none};
 ghost use Rattle.set_matcher.specs.inner.SetMatcher.{AddsGlob, set_matcher_parts};
 ghost use Rattle.set_matcher.specs.inner.TokenGlobs.{token_glob};
+ghost use Rattle.bit_sets.specs.Indexes.{index_capacity};
 ghost use Rattle.bit_sets.specs.Texts.{AllBytes};
-ghost use Rattle.engine.specs.ScratchValue.{HasCapacity};
 ghost use Rattle.byte_nfa.specs.Sets.{sets_capacity};
 ghost use Rattle.set_matcher.specs.Answer.{matching_indexes};
 ghost use Rattle.set_matcher.specs.Below.{MatchesBelow};
@@ -24,9 +24,8 @@ ghost use Rattle.set_matcher.specs.Work.{load, load_below, max_set_visits, max_s
 
 use crate::automata::{Automata, AutomataBuilder, Target};
 use crate::caches::Caches;
-use bit_sets::Visits;
+use bit_sets::{IndexSet, Visits};
 use byte_nfa::StateSets;
-use engine::Scratch;
 use glob_path::{Candidate, PathParts};
 use glob_strategy::{
     LiteralIndex, LiteralIndexBuilder, MatchStrategy, strategy_of, tokens_after_prefix,
@@ -99,14 +98,14 @@ impl SetMatcher {
         }
     }
 
-    /// Returns sets of states without room, to ask whether globs match. It allocates nothing.
+    /// Returns sets of states without room, to match with. It allocates nothing.
     pub fn new_sets(&self) -> StateSets {
         StateSets::new(self.alloc)
     }
 
-    /// Returns a scratch without room, to match with. It allocates nothing.
-    pub fn new_scratch(&self) -> Scratch {
-        Scratch::empty(self.alloc)
+    /// Returns marks without room, to find globs with. It allocates nothing.
+    pub fn new_marks(&self) -> IndexSet {
+        IndexSet::empty(self.alloc)
     }
 
     /// Returns caches with no rows for this matcher. All memory that they need is taken here.
@@ -121,13 +120,14 @@ impl SetMatcher {
 
     /// Replaces the vector's items by the indexes, ascending, of the globs that are not excluded and match the path.
     ///
-    /// The scratch gets room for each index, and for each state of an automaton that is stepped; the vector grows for the
-    /// indexes. It allocates nothing if it has that room and the vector a capacity for all indexes. After an error the vector is
-    /// empty.
+    /// The marks get room for each index, and the sets for each state of an automaton that is stepped; the vector grows for the
+    /// indexes. It allocates nothing if they have that room and the vector a capacity for all indexes. After an error the vector
+    /// is empty.
     pub fn find(
         &self,
         path: &Candidate<'_>,
-        scratch: &mut Scratch,
+        sets: &mut StateSets,
+        marks: &mut IndexSet,
         caches: &mut Caches,
         into: &mut Vec<usize>,
         visits: &mut Visits,
@@ -141,11 +141,12 @@ impl SetMatcher {
             (into.new.items ≡ matching_indexes (set_globs self.now.set) path.now) }
         ensures cleared { OnErr result (into.new.items ≡ []) }
 
-        // The scratch fits all that it fitted before, and the vector's capacity does not shrink. Memory runs out only if the
-        // scratch does not fit the set or the capacity is below the number of globs.
-        ensures kept { scratch.new ≡ scratch.old }
-        ensures room { HasCapacity scratch.old (set_states self.now.set)
-            (length (set_globs self.now.set))
+        // The sets and the marks lose no room, and the vector's capacity does not shrink. Memory runs out only if the sets have
+        // too little room for the largest automaton, or the marks or the capacity for the globs.
+        ensures kept { sets_capacity sets.old ≤ sets_capacity sets.new }
+        ensures marks { index_capacity marks.old ≤ index_capacity marks.new }
+        ensures room { set_states self.now.set ≤ sets_capacity sets.old
+            → length (set_globs self.now.set) ≤ index_capacity marks.old
             → length (set_globs self.now.set) ≤ vec_capacity into.old → IsOk result }
         ensures capacity { vec_capacity into.old ≤ vec_capacity into.new }
 
@@ -156,8 +157,6 @@ impl SetMatcher {
     {
         into.clear();
         let parts = self.parts_of(path.path());
-        let sets = &mut scratch.sets;
-        let marks = &mut scratch.marks;
         let are_run = match &self.automata {
             Some(automata) => automata.find(&parts, sets, marks, caches, visits)?,
             None => false,
@@ -217,12 +216,13 @@ impl SetMatcher {
 
     /// Returns whether every glob matches the path and none is excluded.
     ///
-    /// If an automaton has to be run, the scratch gets room for each index, and for each state of an automaton that is stepped.
-    /// It allocates nothing if it has that room, or if no glob needs an automaton for the path.
+    /// If an automaton has to be run, the marks get room for each index, and the sets for each state of an automaton that is
+    /// stepped. It allocates nothing if they have that room, or if no glob needs an automaton for the path.
     pub fn matches_all(
         &self,
         path: &Candidate<'_>,
-        scratch: &mut Scratch,
+        sets: &mut StateSets,
+        marks: &mut IndexSet,
         caches: &mut Caches,
         visits: &mut Visits,
     ) -> Result<bool, AllocError>
@@ -234,11 +234,12 @@ impl SetMatcher {
             ↔ ContainsAllBelow (matching_indexes (set_globs self.now.set) path.now)
             (length (set_globs self.now.set))) }
 
-        // The scratch fits all that it fitted before. Memory runs out only if some glob needs an automaton for the path and the
-        // scratch does not fit the set.
-        ensures kept { scratch.new ≡ scratch.old }
-        ensures room { HasCapacity scratch.old (set_states self.now.set)
-            (length (set_globs self.now.set)) → IsOk result }
+        // The sets and the marks lose no room. Memory runs out only if some glob needs an automaton for the path, and the sets
+        // have too little room for the largest automaton or the marks for the globs.
+        ensures kept { sets_capacity sets.old ≤ sets_capacity sets.new }
+        ensures marks { index_capacity marks.old ≤ index_capacity marks.new }
+        ensures room { set_states self.now.set ≤ sets_capacity sets.old
+            → length (set_globs self.now.set) ≤ index_capacity marks.old → IsOk result }
         ensures memory { load (set_globs self.now.set) path.now ≡ 0 → IsOk result }
 
         // The number of visits never decreases, and its increase is bounded.
@@ -248,8 +249,7 @@ impl SetMatcher {
     {
         let parts = self.parts_of(path.path());
         if let Some(automata) = &self.automata {
-            let marks = &mut scratch.marks;
-            if automata.find(&parts, &mut scratch.sets, marks, caches, visits)? {
+            if automata.find(&parts, sets, marks, caches, visits)? {
                 self.keys.find(&parts, marks, visits);
                 return Ok(marks.has_all_below(self.len()));
             }

@@ -1,11 +1,11 @@
 //! The parts of a path that automata are run on.
 
-ghost use Rattle.std.specs.Prelude.{◌≡◌, ◌+◌, ◌*◌, ◌≤◌, length, IsOk, OnOk, IfOk, IfSome};
+ghost use Rattle.std.specs.Prelude.{◌≡◌, ◌+◌, ◌*◌, ◌≤◌, ◌↔◌, ℕ, length, IsTrue, IsOk, OnOk, IfOk, IfSome};
 ghost use Rattle.bit_sets.specs.Indexes.{index_capacity};
-ghost use Rattle.bit_sets.specs.Texts.{AllBytes};
 ghost use Rattle.byte_nfa.specs.Runs.{size, max_reads};
 ghost use Rattle.byte_nfa.specs.Sets.{sets_capacity};
-ghost use Rattle.engine.specs.Matching.{AddsMatches, TellsMatch};
+ghost use Rattle.byte_nfa.specs.Steps.{IsReached};
+ghost use Rattle.engine.specs.Matching.{AddsReached};
 ghost use Rattle.set_matcher.specs.inner.Automata.{before_extension};
 ghost use Rattle.set_matcher.specs.inner.PathPart.{part_of};
 
@@ -35,8 +35,8 @@ impl Part {
     }
 }
 
-/// Marks the indexes of the globs whose tokens match a part of the path, beside those that are marked. The part is only searched
-/// for if there are states.
+/// Marks the indexes of the ends that a part of the path leads to, beside those that are marked. The part is only searched for if
+/// there are states.
 // Most sets have no states for some part: the test for that is a part of the caller.
 #[inline(always)]
 pub fn run(
@@ -48,17 +48,16 @@ pub fn run(
     marks: &mut IndexSet,
     visits: &mut Visits,
 ) -> Result<(), AllocError>
-    // The path consists of bytes, and the marks have room for each index. A cache, if there is one, is of the automaton.
-    requires bytes { AllBytes path.now }
+    // The marks have room for each index. A cache, if there is one, is of the automaton.
     requires count { automaton.now.index_count ≤ index_capacity marks.old }
     requires cache { IfSome cache.old (λ c. c ≡ automaton.now) }
 
-    // A cache is of the same automaton afterwards, and the marks have the same room. After success the marks have the matching
-    // indexes in addition.
+    // A cache is of the same automaton afterwards, and the marks have the same room. After success the marks have these indexes
+    // in addition.
     ensures cache { cache.new ≡ cache.old }
     ensures room { index_capacity marks.new ≡ index_capacity marks.old }
     ensures found { OnOk result
-        (AddsMatches automaton.now (part_of part path.now) marks.old marks.new) }
+        (AddsReached automaton.now (part_of part path.now) marks.old marks.new) }
 
     // The sets lose no room. Memory runs out only if they have too little room for the automaton's states.
     ensures kept { sets_capacity sets.old ≤ sets_capacity sets.new }
@@ -75,7 +74,7 @@ pub fn run(
     automaton.find(text, sets, cache, marks, visits)
 }
 
-/// Returns whether a part of the path matches tokens. The part is only searched for if there are states.
+/// Returns whether a part of the path leads to some end. The part is only searched for if there are states.
 #[inline(always)]
 pub fn matches_part(
     part: Part,
@@ -85,13 +84,11 @@ pub fn matches_part(
     cache: &mut Option<Cache>,
     visits: &mut Visits,
 ) -> Result<bool, AllocError>
-    // The path consists of bytes. A cache, if there is one, is of the automaton.
-    requires bytes { AllBytes path.now }
-    requires cache { IfSome cache.old (λ c. c ≡ automaton.now) }
-
-    // A cache is of the same automaton afterwards. The answer tells whether tokens match the part of the path.
+    // A cache, if there is one, is of the automaton, before and after the call. The answer is right.
+    requires { IfSome cache.old (λ c. c ≡ automaton.now) }
     ensures cache { cache.new ≡ cache.old }
-    ensures some { IfOk result (TellsMatch automaton.now (part_of part path.now)) }
+    ensures some { IfOk result
+        (λ yes. IsTrue yes ↔ ((k : ℕ) × IsReached automaton.now (part_of part path.now) k)) }
 
     // The sets lose no room. Memory runs out only if they have too little room for the automaton's states.
     ensures kept { sets_capacity sets.old ≤ sets_capacity sets.new }

@@ -1,5 +1,5 @@
 -- Tokens that share an automaton.
-use Rattle.std.proofs.Common.{◌≡◌, ℕ, ◌≤◌, ◌⊎◌, inl, inr, true, false, ◌||◌, List, [], ◌∷◌, ◌++◌, length, refl, ap, sym, ◌∙◌, subst, arith}
+use Rattle.std.proofs.Common.{◌≡◌, ℕ, ◌≤◌, ◌⊎◌, inl, inr, true, false, ◌||◌, List, [], ◌∷◌, ◌++◌, length, slice_index, refl, ap, sym, ◌∙◌, subst, arith}
 use Rattle.std.specs.Prelude.{◌↔◌, Result, Ok, Err, OnErr}
 use Rattle.std.proofs.Math.Logic.{⊎_elim}
 use Rattle.glob_syntax.specs.declared.options.Options.{Options}
@@ -10,10 +10,14 @@ use Rattle.glob_syntax.specs.TokensMatch.{tokens_match, is_prefix_alone}
 use Rattle.byte_nfa.specs.Steps.{state, loop_state, match_state, HasNumber, Accepts, NfaValue, IsReached}
 use Rattle.byte_nfa.specs.Building.{Agrees, Pushes}
 use Rattle.bit_sets.specs.declared.byte_set.ByteSet.{ByteSet}
+use Rattle.byte_nfa.specs.Live.{MatchesAfter}
 use Rattle.glob_strategy.specs.inner.TokenStates.{IsSetOf, is_any_byte}
 use Rattle.glob_strategy.specs.inner.Building.{Grows, Builds, BuildsWhole}
 use Rattle.bit_sets.specs.Texts.{AllBytes}
-use Rattle.glob_strategy.specs.IndexedTokens.{IndexedTokens, indexed, Matches, SomeMatches, IsFor}
+use Rattle.bit_sets.proofs.lemmas.Texts.{all_bytes}
+use Rattle.byte_nfa.proofs.lemmas.After.{both_bytes}
+use Rattle.glob_path.specs.Below.{folder_start}
+use Rattle.glob_strategy.specs.IndexedTokens.{IndexedTokens, indexed, Matches, SomeMatches, SomeMeanAfter, IsFor}
 use Rattle.glob_syntax.proofs.lemmas.Booleans.{or_first}
 use Rattle.glob_strategy.proofs.lemmas.Building.{agrees_old, agrees_higher}
 use Rattle.glob_syntax.proofs.lemmas.TokenLists.{alone_is}
@@ -112,3 +116,33 @@ one_more o ts j old mid new s xs grows built states starts before = λ a agrees'
 -- what a run reaches is what the tokens match
 pub reached_matches : (m : NfaValue) (xs : List IndexedTokens) (path : List ℕ) (k : ℕ) → IsFor m xs → AllBytes path → IsReached m path k ↔ SomeMatches xs path k
 reached_matches m xs path k is bytes = is m.states (λ s low high. refl) path k bytes
+
+-- whether a run reaches anything is whether some tokens match
+pub has_matches : (m : NfaValue) (xs : List IndexedTokens) (path : List ℕ) → IsFor m xs → AllBytes path → ((k : ℕ) × IsReached m path k) ↔ ((k : ℕ) × SomeMatches xs path k)
+has_matches m xs path is bytes = (
+  λ (k, reached). (k, (reached_matches m xs path k is bytes).0 reached),
+  λ (k, matched). (k, (reached_matches m xs path k is bytes).1 matched),
+)
+
+-- ---- paths with a beginning
+
+some_after : (xs : List IndexedTokens) (y rest : List ℕ) (k : ℕ) → AllBytes rest → SomeMatches xs (y ++ rest) k → SomeMeanAfter xs y
+some_after [] y rest k bytes h = absurd h
+some_after (x ∷ xs) y rest k bytes (inl (is, h)) = inl (rest, bytes, h)
+some_after (x ∷ xs) y rest k bytes (inr h) = inr (some_after xs y rest k bytes h)
+
+after_some : (xs : List IndexedTokens) (y : List ℕ) → SomeMeanAfter xs y → (k : ℕ) × (rest : List ℕ) × AllBytes rest × SomeMatches xs (y ++ rest) k
+after_some [] y h = absurd h
+after_some (x ∷ xs) y (inl (rest, bytes, h)) = (x.index, rest, bytes, inl (refl, h))
+after_some (x ∷ xs) y (inr h) = let (k, rest, bytes, g) = after_some xs y h in (k, rest, bytes, inr g)
+
+-- whether some text that begins so leads to an end is whether some tokens match some path that begins so
+pub after_matches : (m : NfaValue) (xs : List IndexedTokens) (y : List ℕ) → IsFor m xs → AllBytes y → MatchesAfter m y ↔ SomeMeanAfter xs y
+after_matches m xs y is begun =
+    let same : (rest : List ℕ) (k : ℕ) → AllBytes rest → IsReached m (y ++ rest) k ↔ SomeMatches xs (y ++ rest) k = λ rest k all. reached_matches m xs (y ++ rest) k is (both_bytes y rest begun all) in (
+      λ (k, rest, all, reached). some_after xs y rest k all ((same rest k all).0 reached),
+      λ h. let (k, rest, all, matched) = after_some xs y h in (k, rest, all, (same rest k all).1 matched),
+    )
+
+pub start_bytes : (folder : List ℕ) → ((i : ℕ) → slice_index folder i < 256) → AllBytes (folder_start folder)
+start_bytes folder bytes = both_bytes folder (47 ∷ []) (all_bytes folder bytes) (omega arith, tt)

@@ -2,7 +2,7 @@
 use Rattle.std.specs.Prelude.{◌≡◌, ◌≢◌, ◌≤◌, ℕ, [], Option, None, Some, IfSome, length, ⊤}
 use Rattle.std.specs.Arc.{arc_value}
 use Rattle.std.specs.declared.sync.Arc.{Arc}
-use Rattle.engine.specs.ScratchValue.{HasCapacity, ScratchValue}
+use Rattle.globset_glob.specs.ScratchValue.{HasCapacity, ScratchValue}
 use Rattle.set_matcher.specs.SetValue.{SetValue, set_globs, set_states}
 use Rattle.set_matcher.specs.SetMatcherValue.{SetMatcherValue}
 use Rattle.set_matcher.specs.declared.caches.Caches.{Caches}

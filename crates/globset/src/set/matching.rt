@@ -29,7 +29,8 @@ impl GlobSet {
         if let Some(matcher) = self.matcher() {
             matcher.find(
                 &Candidate::new(path.path_text()),
-                &mut matcher.new_scratch(),
+                &mut matcher.new_sets(),
+                &mut matcher.new_marks(),
                 &mut Caches::none(),
                 &mut indexes,
                 &mut Visits::new(),
@@ -143,7 +144,8 @@ impl GlobSet {
         };
         matcher.find(
             path,
-            &mut matcher.new_scratch(),
+            &mut matcher.new_sets(),
+            &mut matcher.new_marks(),
             &mut Caches::none(),
             into,
             visits,
@@ -189,7 +191,9 @@ impl GlobSet {
             into.clear();
             return Ok(());
         };
-        matcher.find(path, scratch, &mut Caches::none(), into, visits)?;
+        let sets = &mut scratch.sets;
+        let marks = &mut scratch.marks;
+        matcher.find(path, sets, marks, &mut Caches::none(), into, visits)?;
         Ok(())
     }
 
@@ -367,7 +371,8 @@ impl GlobSet {
         };
         Ok(matcher.matches_all(
             path,
-            &mut matcher.new_scratch(),
+            &mut matcher.new_sets(),
+            &mut matcher.new_marks(),
             &mut Caches::none(),
             visits,
         )?)
@@ -398,8 +403,10 @@ impl GlobSet {
         let Some(matcher) = self.matcher() else {
             return true;
         };
+        let sets = &mut scratch.sets;
+        let marks = &mut scratch.marks;
         matcher
-            .matches_all(path, scratch, &mut Caches::none(), visits)
+            .matches_all(path, sets, marks, &mut Caches::none(), visits)
             .unwrap()
     }
 

@@ -6,9 +6,10 @@ use Rattle.std.proofs.Math.Nat.{mul-le-mul_right}
 use Rattle.std.proofs.Math.Seq.{take-append_seam}
 use Rattle.std.proofs.lemmas.List.{length-append}
 use Rattle.byte_nfa.specs.Runs.{size}
-use Rattle.byte_nfa.specs.Steps.{State, NfaValue, state, union_state, HasNumber, Accepts, ends, by_byte, by_skip, by_out, by_stay}
+use Rattle.byte_nfa.specs.Steps.{State, NfaValue, state, union_state, HasNumber, IsReached, Accepts, ends, by_byte, by_skip, by_out, by_stay}
 use Rattle.bit_sets.specs.Texts.{AllBytes}
 use Rattle.glob_strategy.specs.IndexedTokens.{IndexedTokens, SomeMatches, IsFor}
+use Rattle.glob_strategy.proofs.lemmas.IndexedTokens.{reached_matches}
 use Rattle.glob_strategy.proofs.lemmas.TokenMeaning.{extension_end}
 use Rattle.glob_path.specs.PathParts.{after_position, component_extension, last_component, last_position, is_separator}
 use Rattle.set_matcher.specs.inner.Automata.{before_extension}
@@ -74,12 +75,22 @@ none_accepted : (states : List State) (k s : ℕ) (y : List ℕ) → length stat
 none_accepted [] k s y e h = no_state k s y refl h
 none_accepted (x ∷ xs) k s y e h = absurd (omega (arith, e))
 
+-- no text leads to an end of it
+pub no_reached : (m : NfaValue) (y : List ℕ) (k : ℕ) → size m ≡ 0 → IsReached m y k → ⊥
+no_reached m y k none (s, at, accepts) = none_accepted m.states k s y none accepts
+
 -- it is for tokens that match nothing
 pub no_matches : (m : NfaValue) (xs : List IndexedTokens) (path : List ℕ) (k : ℕ) → size m ≡ 0 → IsFor m xs → AllBytes path → SomeMatches xs path k → ⊥
-no_matches m xs path k none is bytes some =
-    let (s, at, accepts) = (is m.states (λ s low high. refl) path k bytes).1 some in none_accepted m.states k s path none accepts
+no_matches m xs path k none is bytes some = no_reached m path k none ((reached_matches m xs path k is bytes).1 some)
 
 -- ---- three runs
+
+-- what a run puts into a set, by the tokens
+pub by_tokens : {A B P S : Type 0} → A ↔ B → P ↔ (A ⊎ S) → P ↔ (B ⊎ S)
+by_tokens {A} {B} {P} {S} same run = (
+  λ p. ⊎_elim {C = B ⊎ S} (λ a. inl (same.0 a)) (λ s. inr s) (run.0 p),
+  λ h. run.1 (⊎_elim {C = A ⊎ S} (λ b. inl (same.1 b)) (λ s. inr s) h),
+)
 
 -- one after another puts what it finds into a set that was empty
 pub three_runs : {A B C P Q R S : Type 0} → (S → ⊥) → P ↔ (A ⊎ S) → Q ↔ (B ⊎ P) → R ↔ (C ⊎ Q) → R ↔ (A ⊎ (B ⊎ C))

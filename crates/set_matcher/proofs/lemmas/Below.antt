@@ -1,5 +1,5 @@
 -- What is found for a folder, by keys and by automata.
-use Rattle.std.proofs.Common.{ℕ, ◌+◌, ◌*◌, ◌≤◌, ◌⊎◌, inl, inr, Bool, true, List, [], ◌∷◌, IsTrue, refl, arith}
+use Rattle.std.proofs.Common.{ℕ, ◌+◌, ◌*◌, ◌<◌, ◌≤◌, ◌⊎◌, inl, inr, Bool, true, List, [], ◌∷◌, get_or, length, IsTrue, refl, arith}
 use Rattle.std.specs.Prelude.{◌↔◌}
 use Rattle.std.proofs.Math.Logic.{⊎_elim}
 use Rattle.std.proofs.lemmas.List.Sums.{sum_by-append}
@@ -8,24 +8,23 @@ use Rattle.byte_nfa.specs.Live.{MatchesAfter}
 use Rattle.byte_nfa.specs.Runs.{max_reads}
 use Rattle.byte_nfa.specs.Steps.{NfaValue}
 use Rattle.bit_sets.specs.Texts.{AllBytes}
-use Rattle.glob_strategy.specs.IndexedTokens.{SomeMeanAfter}
-use Rattle.glob_strategy.specs.IndexedTokens.{IndexedTokens, IsFor}
-use Rattle.glob_strategy.proofs.lemmas.IndexedTokens.{reached_matches}
-use Rattle.engine.proofs.lemmas.Compiled.{some_after, after_some}
+use Rattle.glob_strategy.specs.IndexedTokens.{IndexedTokens, SomeMeanAfter}
+use Rattle.glob_strategy.proofs.lemmas.IndexedTokens.{after_matches}
 use Rattle.glob_strategy.specs.KeysBelow.{MatchesBelow}
 use Rattle.set_matcher.specs.inner.TokenGlobs.{TokenGlob, SomeReportedBelow}
 use Rattle.set_matcher.specs.Visits.{visits_below_for}
-use Rattle.set_matcher.specs.inner.Automata.{AreFoundBelow, max_size, total_reads}
+use Rattle.set_matcher.specs.inner.Automata.{AreFor, AreFoundBelow, SomeExtensionAfter, SomeLeadsAfter, max_size, no_nfa, total_reads}
 use Rattle.set_matcher.specs.inner.SetMatcher.{SetMatcherParts, IsSetMatcherOf}
 
 -- ---- automata
 
--- some text leads to an end just if tokens match some text
-pub some_text : (m : NfaValue) (xs : List IndexedTokens) → IsFor m xs → MatchesAfter m [] ↔ SomeMeanAfter xs []
-some_text m xs is = (
-  λ (k, rest, bytes, reached). some_after xs [] rest k bytes ((reached_matches m xs rest k is bytes).0 reached),
-  λ h. let (k, rest, bytes, matched) = after_some xs [] h in (k, rest, bytes, (reached_matches m xs rest k is bytes).1 matched),
-)
+-- the automaton of some slot leads to an end just if its tokens match
+pub slots_after : (nfas : List NfaValue) (tokens : ℕ → List IndexedTokens) (y : List ℕ) → AreFor nfas tokens → AllBytes y → SomeLeadsAfter nfas y ↔ SomeExtensionAfter (length nfas) tokens y
+slots_after nfas tokens y are bytes =
+    let same : (s : ℕ) → s < length nfas → MatchesAfter (get_or nfas s (no_nfa 0)) y ↔ SomeMeanAfter (tokens s) y = λ s lt. after_matches (get_or nfas s (no_nfa 0)) (tokens s) y (are s (no_nfa 0) lt) bytes in (
+      λ (s, lt, h). (s, lt, (same s lt).0 h),
+      λ (s, lt, h). (s, lt, (same s lt).1 h),
+    )
 
 -- the last of three tells, if the others say no
 pub last_of_three : {Yes A B C : Type 0} → (A → ⊥) → (B → ⊥) → Yes ↔ C → Yes ↔ (A ⊎ (B ⊎ C))

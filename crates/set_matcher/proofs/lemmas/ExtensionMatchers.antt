@@ -341,10 +341,10 @@ module _ (nfas : List NfaValue) (i : ℕ) (m : NfaValue) (lt : i < length nfas) 
   pub size_within : size m ≤ max_size nfas
   size_within = let bound = max_bounds nfas i m lt in omega (arith, bound, ap size is)
 
-  pub is_for : (tokens : ℕ → List IndexedTokens) → AreFor nfas tokens → IsFor m (tokens i)
-  is_for tokens are = subst (λ x. IsFor x (tokens i)) (sym is) (are i m lt)
+  pub is_at : m ≡ get_or nfas i (no_nfa 0)
+  is_at = is ∙ any_default nfas i m (no_nfa 0) lt
 
--- no slot before the next one, and not this one
-pub none_limit : (tokens : ℕ → List IndexedTokens) (i : ℕ) (y : List ℕ) → (SomeExtensionAfter i tokens y → ⊥) → (SomeMeanAfter (tokens i) y → ⊥) → SomeExtensionAfter (i + 1) tokens y → ⊥
-none_limit tokens i y before this (s, lt, some) =
-    ⊎_elim {C = ⊥} (λ is. this (subst (λ t. SomeMeanAfter (tokens t) y) is some)) (λ other. before (s, omega (arith, lt, other), some)) (equal_or_not s i)
+  -- none of the automata so far, and not this one
+  pub none_limit : {P : NfaValue → Type 0} → ((s : ℕ) → s < i → P (get_or nfas s (no_nfa 0)) → ⊥) → (P m → ⊥) → (s : ℕ) → s < i + 1 → P (get_or nfas s (no_nfa 0)) → ⊥
+  none_limit {P = P} before this s at some =
+      ⊎_elim {C = ⊥} (λ same. this (subst P (ap (λ t. get_or nfas t (no_nfa 0)) same ∙ sym is_at) some)) (λ other. before s (omega (arith, at, other)) some) (equal_or_not s i)

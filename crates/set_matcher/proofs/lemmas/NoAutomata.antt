@@ -4,12 +4,11 @@ use Rattle.std.proofs.Math.Logic.{⊎_elim}
 use Rattle.std.specs.Global.{Box}
 use Rattle.bit_sets.specs.Texts.{AllBytes}
 use Rattle.byte_nfa.specs.Live.{MatchesAfter}
-use Rattle.engine.proofs.lemmas.Compiled.{after_matches}
 use Rattle.glob_path.specs.Below.{folder_start}
 use Rattle.glob_path.specs.PathParts.{last_component}
+use Rattle.glob_strategy.proofs.lemmas.IndexedTokens.{after_matches, start_bytes}
 use Rattle.set_matcher.specs.inner.Automata.{AreForLists, AreFoundBelow, AreIdle, AutomataParts, TokenLists, automata_or_none, no_automata, no_nfa}
 use Rattle.set_matcher.proofs.lemmas.Automata.{component_bytes, no_matches}
-use Rattle.set_matcher.proofs.lemmas.Below.{some_text}
 
 -- the automata that are kept
 pub kept_is : (n : ℕ) {automata : Option (Box AutomataParts)} {b : Box AutomataParts} {a : AutomataParts} → automata ≡ Some b → a ≡ b.value → automata_or_none n automata ≡ a
@@ -37,6 +36,6 @@ pub none_below : {automata : Option (Box AutomataParts)} (n : ℕ) (folder : Lis
 none_below {automata = automata} n folder t is bytes = subst (λ a. AreForLists a t → AreFoundBelow a.extensions t folder → ⊥) (sym (ap (automata_or_none n) is)) none
   where
     none : AreForLists (no_automata n) t → AreFoundBelow (no_automata n).extensions t folder → ⊥
-    none are found = ⊎_elim {C = ⊥} (λ by_component. no_text n [] ((some_text (no_nfa n) t.by_component are.component).1 by_component))
-        (λ later. ⊎_elim {C = ⊥} (λ by_path. no_text n (folder_start folder) ((after_matches (no_nfa n) t.by_path folder 47 bytes (omega arith) (λ h. h, λ h. h) are.path).1 by_path))
+    none are found = ⊎_elim {C = ⊥} (λ by_component. no_text n [] ((after_matches (no_nfa n) t.by_component [] are.component tt).1 by_component))
+        (λ later. ⊎_elim {C = ⊥} (λ by_path. no_text n (folder_start folder) ((after_matches (no_nfa n) t.by_path (folder_start folder) are.path (start_bytes folder bytes)).1 by_path))
         (λ slot. absurd (omega (arith, slot.1))) later) found

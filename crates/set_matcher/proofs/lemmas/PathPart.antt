@@ -1,14 +1,9 @@
--- Parts of a path are bytes, and not longer than the path.
+-- Parts of a path are not longer than the path.
 use Rattle.std.proofs.Common.{◌≡◌, ℕ, ◌+◌, ◌*◌, ◌≤◌, List, length, subst}
-use Rattle.bit_sets.specs.Texts.{AllBytes}
 use Rattle.set_matcher.specs.declared.path_part.Part.{Part}
 use Rattle.set_matcher.specs.declared.path_part.Part.TheVariants.{Path, LastComponent}
 use Rattle.set_matcher.specs.inner.PathPart.{part_of}
-use Rattle.set_matcher.proofs.lemmas.Automata.{component_bytes, component_visits}
-
-pub part_bytes : (part : Part) (path : List ℕ) → AllBytes path → AllBytes (part_of part path)
-part_bytes Path path bytes = bytes
-part_bytes LastComponent path bytes = component_bytes path bytes
+use Rattle.set_matcher.proofs.lemmas.Automata.{component_visits}
 
 -- the visits of a run over a part, within those of a run over the path
 pub part_visits : (part : Part) (path text : List ℕ) (n old new : ℕ) → text ≡ part_of part path → new ≤ old + (length text + 1) * n → new ≤ old + (length path + 1) * n

@@ -91,9 +91,9 @@ AddsTokensTo old new key x = (before : ℕ → List IndexedTokens) → AreFor ol
 abbrev pub AddsReads : ExtensionParts → ExtensionParts → List ℕ → ℕ → Type 0
 AddsReads old new key n = (extension : List ℕ) → max_reads (nfa_under new extension) ≤ max_reads (nfa_under old extension) + cond (bytes_eq key extension) n 0
 
--- the answer is whether the tokens of some extension match some text that begins with y
-abbrev pub TellsSomeAfter : ExtensionParts → List ℕ → Bool → Type 0
-TellsSomeAfter e y answer = (by_slot : ℕ → List IndexedTokens) → AreFor e.nfas by_slot → IsTrue answer ↔ SomeExtensionAfter (length e.nfas) by_slot y
+-- some text that begins with y leads to an end of the automaton of some slot
+abbrev pub SomeLeadsAfter : List NfaValue → List ℕ → Type 0
+SomeLeadsAfter nfas y = (s : ℕ) × (s < length nfas) × MatchesAfter (get_or nfas s (no_nfa 0)) y
 
 -- ---- all of them
 

@@ -2,15 +2,15 @@
 
 ghost use Rattle.std.specs.Prelude.{◌≡◌, ◌+◌, ◌*◌, ◌<◌, ◌≤◌, ◌↔◌, ◌++◌, ◌∷◌, [], ℕ, List, length, IsTrue, IsOk, OnOk, IfOk, None, Some, OnErr};
 ghost use Rattle.bit_sets.specs.Indexes.{index_capacity};
-ghost use Rattle.bit_sets.specs.Texts.{AllBytes};
 ghost use Rattle.byte_nfa.specs.Runs.{size, max_reads};
 ghost use Rattle.byte_nfa.specs.Sets.{sets_capacity};
-ghost use Rattle.engine.specs.Matching.{AddsMatches, TellsMatch};
+ghost use Rattle.byte_nfa.specs.Steps.{IsReached};
+ghost use Rattle.engine.specs.Matching.{AddsReached};
 ghost use Rattle.glob_strategy.specs.IndexedTokens.{IndexedTokens, indexed};
 ghost use Rattle.glob_syntax.specs.FlatTokens.{IsNested};
 ghost use Rattle.glob_syntax.specs.Views.{flats, tokens_of};
 ghost use Rattle.glob_syntax.specs.inner.Weight.{weight};
-ghost use Rattle.set_matcher.specs.inner.Automata.{AddsReads, AddsTokensTo, AreFor, KeepsTokens, TellsSomeAfter, before_extension, nfa_at, nfa_under, max_size, slot_of, total_reads};
+ghost use Rattle.set_matcher.specs.inner.Automata.{AddsReads, AddsTokensTo, AreFor, KeepsTokens, SomeLeadsAfter, before_extension, nfa_at, nfa_under, max_size, slot_of, total_reads};
 ghost use Rattle.set_matcher.specs.inner.Caches.{AreSlotCaches};
 ghost use Rattle.glob_path.specs.Entries.{entry};
 ghost use Rattle.set_matcher.specs.inner.ExtensionSlots.{HasSlots};
@@ -153,8 +153,8 @@ impl ExtensionMatchers {
 }
 
 impl ExtensionMatchers {
-    /// Marks the indexes of the globs of a slot whose tokens match the bytes before the extension of the path, beside those that
-    /// are marked. Without a slot there are none.
+    /// Marks the indexes of the ends that the bytes before the extension of the path lead to in the automaton of a slot, beside
+    /// those that are marked. Without a slot there are none.
     pub fn find(
         &self,
         slot: Option<usize>,
@@ -164,19 +164,18 @@ impl ExtensionMatchers {
         marks: &mut IndexSet,
         visits: &mut Visits,
     ) -> Result<(), AllocError>
-        // The slot, if there is any, is the position of an automaton. The path consists of bytes, and the marks have room for each
-        // index. Each cache is of the automaton that it is used with.
+        // The slot, if there is any, is the position of an automaton. The marks have room for each index. Each cache is of the
+        // automaton that it is used with.
         requires slot { (s : ℕ) → slot ≡ Some s → s < length self.now.nfas }
-        requires bytes { AllBytes path.now }
         requires count { self.now.index_count ≤ index_capacity marks.old }
         requires caches { AreSlotCaches self.now.nfas caches.old }
 
-        // Each cache is of the same automaton afterwards, and the marks have the same room. After success the marks have the
-        // matching indexes in addition.
+        // Each cache is of the same automaton afterwards, and the marks have the same room. After success the marks have these
+        // indexes in addition.
         ensures caches { caches.new ≡ caches.old }
         ensures room { index_capacity marks.new ≡ index_capacity marks.old }
         ensures found { OnOk result
-            (AddsMatches (nfa_at self.now.nfas slot) (before_extension path.now) marks.old marks.new) }
+            (AddsReached (nfa_at self.now.nfas slot) (before_extension path.now) marks.old marks.new) }
 
         // The sets lose no room. Memory runs out only if they have too little room for the largest automaton.
         ensures kept { sets_capacity sets.old ≤ sets_capacity sets.new }
@@ -201,7 +200,8 @@ impl ExtensionMatchers {
         automaton.find(text, sets, &mut None, marks, visits)
     }
 
-    /// Returns whether tokens of a slot match the bytes before the extension of the path. Without a slot there are none.
+    /// Returns whether the bytes before the extension of the path lead to some end of the automaton of a slot. Without a slot
+    /// there is none.
     pub fn is_match(
         &self,
         slot: Option<usize>,
@@ -210,16 +210,15 @@ impl ExtensionMatchers {
         caches: &mut SlotCaches,
         visits: &mut Visits,
     ) -> Result<bool, AllocError>
-        // The slot, if there is any, is the position of an automaton. The path consists of bytes. Each cache is of the automaton
-        // that it is used with.
+        // The slot, if there is any, is the position of an automaton. Each cache is of the automaton that it is used with.
         requires slot { (s : ℕ) → slot ≡ Some s → s < length self.now.nfas }
-        requires bytes { AllBytes path.now }
         requires caches { AreSlotCaches self.now.nfas caches.old }
 
-        // Each cache is of the same automaton afterwards. The answer tells whether tokens match the bytes before the extension.
+        // Each cache is of the same automaton afterwards. The answer is right.
         ensures caches { caches.new ≡ caches.old }
         ensures some { IfOk result
-            (TellsMatch (nfa_at self.now.nfas slot) (before_extension path.now)) }
+            (λ yes. IsTrue yes
+            ↔ ((k : ℕ) × IsReached (nfa_at self.now.nfas slot) (before_extension path.now) k)) }
 
         // The sets lose no room. Memory runs out only if they have too little room for the states of the slot.
         ensures kept { sets_capacity sets.old ≤ sets_capacity sets.new }
@@ -245,7 +244,7 @@ impl ExtensionMatchers {
         automaton.is_match(text, sets, &mut None, visits)
     }
 
-    /// Returns whether tokens of some extension match a text that begins with `text` and then `byte`.
+    /// Returns whether some text that begins with `text` and then `byte` leads to some end of the automaton of some extension.
     ///
     /// It is at most `(text bytes + 2) * (states + 3 * starts)` visits of each automaton. The runs use the same sets of states in
     /// turn. The sets get room for each state of an automaton that is stepped.
@@ -260,7 +259,8 @@ impl ExtensionMatchers {
         // Each cache is of the automaton that it is used with, before and after the call. The answer is right.
         requires { AreSlotCaches self.now.nfas caches.old }
         ensures caches { caches.new ≡ caches.old }
-        ensures some { IfOk result (λ yes. TellsSomeAfter self.now (text.now ++ byte ∷ []) yes) }
+        ensures some { IfOk result
+            (λ yes. IsTrue yes ↔ SomeLeadsAfter self.now.nfas (text.now ++ byte ∷ [])) }
 
         // The sets lose no room. Memory runs out only if they have too little room for the largest automaton.
         ensures kept { sets_capacity sets.old ≤ sets_capacity sets.new }

@@ -1,10 +1,9 @@
-use Rattle.std.specs.Prelude.{◌↔◌, Option, IfSome, IsTrue}
+use Rattle.std.specs.Prelude.{◌↔◌, Option, IfOk, IfSome, IsTrue}
 use Rattle.byte_nfa.specs.Live.{MatchesAfter}
 use Rattle.std.proofs.Common.{ap, ℕ, List, ◌≡◌, ◌++◌, ◌∷◌, [], ◌+◌, ◌*◌, ◌≤◌, ◌∙◌, length, arith, sym, subst}
 use Rattle.byte_nfa.specs.Runs.{size}
 use Rattle.byte_nfa.specs.Steps.{NfaValue, IsReached}
 use Rattle.byte_nfa.specs.SimulationValue.{SimulationValue}
-use Rattle.engine.proofs.lemmas.Compiled.{after_matches, if_ok}
 use Rattle.engine.proofs.lemmas.Rows.{never_after, stepped_within}
 use Rattle.engine.proofs.compiled.Compiled.can_match_after.Goals as goal
 use Rattle.engine.proofs.compiled.Compiled.can_match_after.Goals.{in-Some-rows+in_default-can_match_after, in_default-rows}
@@ -13,28 +12,25 @@ pub returns-in-Some-can_match_after-clause-some : goal.returns-in-Some-can_match
 returns-in-Some-can_match_after-clause-some c =
     let m = c.args.self.now in
     let made_for : c.in-Some-rows.rows ≡ m = subst (λ (o : Option NfaValue). IfSome o (λ r. r ≡ c.self.inside.source)) c.in-Some-rows.is c.self.invariant.1 ∙ c.self.view_is in
-    λ xs is. after_matches m xs c.args.text.now c.args.byte (λ i. omega (arith, c.type_inv.text i)) (omega arith)
-    (subst (λ (x : NfaValue). IsTrue c.in-Some-can_match_after.can_match ↔ MatchesAfter x (c.args.text.now ++ c.args.byte ∷ [])) made_for c.in-Some-can_match_after.ensures.some) is
+    subst (λ (x : NfaValue). IsTrue c.in-Some-can_match_after.can_match ↔ MatchesAfter x (c.args.text.now ++ c.args.byte ∷ [])) made_for c.in-Some-can_match_after.ensures.some
 
 pub returns-then-not-has_starts-clause-some : goal.returns-then-not-has_starts-clause-some
 returns-then-not-has_starts-clause-some c =
     let m = c.args.self.now in
     let is : c.deref.result.now.nfa ≡ m = ap (λ (v : SimulationValue). v.nfa) c.deref.ensures ∙ c.self.invariant.0 ∙ c.self.view_is in
-    λ xs for. after_matches m xs c.args.text.now c.args.byte (λ i. omega (arith, c.type_inv.text i)) (omega arith)
-    (never_after m (subst (λ (x : NfaValue). (y : List ℕ) (k : ℕ) → IsReached x y k → ⊥) is (c.has_starts.ensures.none c.if-not-has_starts.true)) c.args.text.now c.args.byte) for
+    never_after m (subst (λ (x : NfaValue). (y : List ℕ) (k : ℕ) → IsReached x y k → ⊥) is (c.has_starts.ensures.none c.if-not-has_starts.true)) c.args.text.now c.args.byte
 
 pub returns-in-Some-clause-some : goal.returns-in-Some-clause-some
 returns-in-Some-clause-some c =
     let m = c.args.self.now in
     let made_for : c.in-Some.cache ≡ m = subst (λ (o : Option NfaValue). IfSome o (λ r. r ≡ m)) c.in-Some.is c.requires in
-    λ xs is. after_matches m xs c.args.text.now c.args.byte (λ i. omega (arith, c.type_inv.text i)) (omega arith)
-    (subst (λ (x : NfaValue). IsTrue c.can_match_after.result ↔ MatchesAfter x (c.args.text.now ++ c.args.byte ∷ [])) made_for c.can_match_after.ensures.some) is
+    subst (λ (x : NfaValue). IsTrue c.can_match_after.result ↔ MatchesAfter x (c.args.text.now ++ c.args.byte ∷ [])) made_for c.can_match_after.ensures.some
 
 pub returns-clause-some : goal.returns-clause-some
 returns-clause-some c =
     let m = c.args.self.now in
     let is : c.deref-2.result.now.nfa ≡ m = ap (λ (v : SimulationValue). v.nfa) c.deref-2.ensures ∙ c.self.invariant.0 ∙ c.self.view_is in
-    if_ok c.can_match_after-2.result (λ yes some xs for. after_matches m xs c.args.text.now c.args.byte (λ i. omega (arith, c.type_inv.text i)) (omega arith) (subst (λ (x : NfaValue). IsTrue yes ↔ MatchesAfter x (c.args.text.now ++ c.args.byte ∷ [])) is some) for) c.can_match_after-2.ensures.some
+    subst (λ (x : NfaValue). IfOk c.can_match_after-2.result (λ yes. IsTrue yes ↔ MatchesAfter x (c.args.text.now ++ c.args.byte ∷ []))) is c.can_match_after-2.ensures.some
 
 pub returns-clause-visits : goal.returns-clause-visits
 returns-clause-visits c =

@@ -1,12 +1,12 @@
 use Rattle.std.proofs.Common.{◌≡◌, ◌+◌, ◌*◌, ◌≤◌, ◌∙◌, length, ap, arith, sym, subst}
 use Rattle.std.specs.Prelude.{Option, IfSome}
+use Rattle.std.proofs.lemmas.Result.{on_ok_weaker}
 use Rattle.bit_sets.specs.declared.index_set.IndexSet.{IndexSet}
 use Rattle.byte_nfa.specs.Runs.{size}
 use Rattle.byte_nfa.specs.Steps.{NfaValue}
 use Rattle.byte_nfa.specs.SimulationValue.{SimulationValue}
 use Rattle.engine.specs.Matching.{AddsReached}
 use Rattle.engine.specs.inner.Found.{AddsSome}
-use Rattle.engine.proofs.lemmas.Compiled.{adds_matches, on_ok}
 use Rattle.engine.proofs.lemmas.Rows.{adds_nothing, adds_rest, none_added, stepped_within}
 use Rattle.engine.proofs.compiled.Compiled.find.Goals as goal
 use Rattle.engine.proofs.compiled.Compiled.find.Goals.{in-Some-rows+else-find, in_default-rows}
@@ -17,27 +17,15 @@ returns-then-find-clause-reached c =
     let made_for : c.in-Some-rows.rows ≡ m = subst (λ (o : Option NfaValue). IfSome o (λ r. r ≡ c.self.inside.source)) c.in-Some-rows.is c.self.invariant.1 ∙ c.self.view_is in
     subst (λ (x : NfaValue). AddsReached x c.args.text.now c.args.found.now c.find-in-Some-rows.new.found) made_for (c.find-in-Some-rows.ensures.found c.if-find.true)
 
-pub returns-then-find-clause-found : goal.returns-then-find-clause-found
-returns-then-find-clause-found c =
-    adds_matches c.args.self.now c.args.text.now c.args.found.now c.find-in-Some-rows.new.found (λ i. omega (arith, c.type_inv.text i)) (returns-then-find-clause-reached c)
-
 pub returns-then-leads_to_none-clause-reached : goal.returns-then-leads_to_none-clause-reached
 returns-then-leads_to_none-clause-reached c =
     none_added c.args.self.now c.args.text.now c.args.found.now (c.leads_to_none.ensures.none c.if-leads_to_none.true)
-
-pub returns-then-leads_to_none-clause-found : goal.returns-then-leads_to_none-clause-found
-returns-then-leads_to_none-clause-found c =
-    adds_matches c.args.self.now c.args.text.now c.args.found.now c.args.found.now (λ i. omega (arith, c.type_inv.text i)) (returns-then-leads_to_none-clause-reached c)
 
 pub returns-in-Some-clause-reached : goal.returns-in-Some-clause-reached
 returns-in-Some-clause-reached c =
     let m = c.args.self.now in
     let made_for : c.in-Some.cache ≡ m = subst (λ (o : Option NfaValue). IfSome o (λ r. r ≡ m)) c.in-Some.is c.requires.cache in
     subst (λ (x : NfaValue). AddsReached x c.args.text.now c.args.found.now c.find.new.found) made_for c.find.ensures.found
-
-pub returns-in-Some-clause-found : goal.returns-in-Some-clause-found
-returns-in-Some-clause-found c =
-    adds_matches c.args.self.now c.args.text.now c.args.found.now c.find.new.found (λ i. omega (arith, c.type_inv.text i)) (returns-in-Some-clause-reached c)
 
 pub returns-clause-reached : goal.returns-clause-reached
 returns-clause-reached c =
@@ -51,11 +39,7 @@ returns-clause-reached c =
           subst (λ (x : IndexSet). AddsSome m text before x) (sym w.found-is) (subst (λ (x : NfaValue). AddsSome x text before w.find-in-Some-rows.new.found) made_for w.find-in-Some-rows.ensures.some)
       | in_default-rows w ↦ subst (λ (x : IndexSet). AddsSome m text before x) (sym w.found-is) (adds_nothing m text before)
     ] in
-    on_ok c.find-2.result (λ found. adds_rest m text before c.match-self.found c.find-2.new.found some (subst (λ (x : NfaValue). AddsReached x text c.match-self.found c.find-2.new.found) is found)) c.find-2.ensures.found
-
-pub returns-clause-found : goal.returns-clause-found
-returns-clause-found c =
-    on_ok c.find-2.result (λ reached. adds_matches c.args.self.now c.args.text.now c.args.found.now c.find-2.new.found (λ i. omega (arith, c.type_inv.text i)) reached) (returns-clause-reached c)
+    on_ok_weaker c.find-2.result (λ found. adds_rest m text before c.match-self.found c.find-2.new.found some (subst (λ (x : NfaValue). AddsReached x text c.match-self.found c.find-2.new.found) is found)) c.find-2.ensures.found
 
 pub returns-clause-visits : goal.returns-clause-visits
 returns-clause-visits c =

@@ -1,9 +1,8 @@
-use Rattle.std.specs.Prelude.{◌↔◌, Option, IfSome, IsTrue}
+use Rattle.std.specs.Prelude.{◌↔◌, Option, IfOk, IfSome, IsTrue}
 use Rattle.std.proofs.Common.{sym, ℕ, ◌≡◌, ◌∙◌, false, ◌+◌, ◌*◌, ◌≤◌, length, ap, arith, subst}
 use Rattle.byte_nfa.specs.Runs.{size}
 use Rattle.byte_nfa.specs.Steps.{NfaValue, IsReached}
 use Rattle.byte_nfa.specs.SimulationValue.{SimulationValue}
-use Rattle.engine.proofs.lemmas.Compiled.{if_ok, tells_match}
 use Rattle.engine.proofs.lemmas.Rows.{none_matches, stepped_within}
 use Rattle.engine.proofs.compiled.Compiled.is_match.Goals as goal
 use Rattle.engine.proofs.compiled.Compiled.is_match.Goals.{in-Some-rows+in_default-is_match, in_default-rows}
@@ -12,24 +11,22 @@ pub returns-in-Some-is_match-clause-some : goal.returns-in-Some-is_match-clause-
 returns-in-Some-is_match-clause-some c =
     let m = c.args.self.now in
     let made_for : c.in-Some-rows.rows ≡ m = subst (λ (o : Option NfaValue). IfSome o (λ r. r ≡ c.self.inside.source)) c.in-Some-rows.is c.self.invariant.1 ∙ c.self.view_is in
-    tells_match m c.args.text.now c.in-Some-is_match.is_match (λ i. omega (arith, c.type_inv.text i))
-    (subst (λ (x : NfaValue). IsTrue c.in-Some-is_match.is_match ↔ ((k : ℕ) × IsReached x c.args.text.now k)) made_for c.in-Some-is_match.ensures.some)
+    subst (λ (x : NfaValue). IsTrue c.in-Some-is_match.is_match ↔ ((k : ℕ) × IsReached x c.args.text.now k)) made_for c.in-Some-is_match.ensures.some
 
 pub returns-then-leads_to_none-clause-some : goal.returns-then-leads_to_none-clause-some
-returns-then-leads_to_none-clause-some c = tells_match c.args.self.now c.args.text.now false (λ i. omega (arith, c.type_inv.text i)) (none_matches c.args.self.now c.args.text.now (c.leads_to_none.ensures.none c.if-leads_to_none.true))
+returns-then-leads_to_none-clause-some c = none_matches c.args.self.now c.args.text.now (c.leads_to_none.ensures.none c.if-leads_to_none.true)
 
 pub returns-in-Some-clause-some : goal.returns-in-Some-clause-some
 returns-in-Some-clause-some c =
     let m = c.args.self.now in
     let made_for : c.in-Some.cache ≡ m = subst (λ (o : Option NfaValue). IfSome o (λ r. r ≡ m)) c.in-Some.is c.requires in
-    tells_match m c.args.text.now c.is_match.result (λ i. omega (arith, c.type_inv.text i))
-    (subst (λ (x : NfaValue). IsTrue c.is_match.result ↔ ((k : ℕ) × IsReached x c.args.text.now k)) made_for c.is_match.ensures.some)
+    subst (λ (x : NfaValue). IsTrue c.is_match.result ↔ ((k : ℕ) × IsReached x c.args.text.now k)) made_for c.is_match.ensures.some
 
 pub returns-clause-some : goal.returns-clause-some
 returns-clause-some c =
     let m = c.args.self.now in
     let is : c.deref.result.now.nfa ≡ m = ap (λ (v : SimulationValue). v.nfa) c.deref.ensures ∙ c.self.invariant.0 ∙ c.self.view_is in
-    if_ok c.is_match-2.result (λ yes some. tells_match m c.args.text.now yes (λ i. omega (arith, c.type_inv.text i)) (subst (λ (x : NfaValue). IsTrue yes ↔ ((k : ℕ) × IsReached x c.args.text.now k)) is some)) c.is_match-2.ensures.some
+    subst (λ (x : NfaValue). IfOk c.is_match-2.result (λ yes. IsTrue yes ↔ ((k : ℕ) × IsReached x c.args.text.now k))) is c.is_match-2.ensures.some
 
 pub returns-clause-visits : goal.returns-clause-visits
 returns-clause-visits c =

@@ -1,12 +1,13 @@
 use Rattle.std.proofs.Common.{◌≡◌, ◌+◌, ◌*◌, ◌≤◌, length, refl, ap, sym, subst, true≢false, arith, ◌∙◌}
 use Rattle.glob_strategy.specs.IndexedTokens.{IsFor}
+use Rattle.glob_strategy.proofs.lemmas.IndexedTokens.{reached_matches}
 use Rattle.byte_nfa.specs.Runs.{size, max_reads}
 use Rattle.byte_nfa.specs.Sets.{sets_capacity}
 use Rattle.byte_nfa.specs.Steps.{NfaValue}
 use Rattle.std.proofs.Math.Logic.{⊎_elim}
-use Rattle.glob_path.specs.PathParts.{last_component, component_extension, last_position, is_separator}
+use Rattle.glob_path.specs.PathParts.{last_component, component_extension}
 use Rattle.set_matcher.specs.inner.Automata.{AutomataParts, before_extension, nfa_at, nfa_under, max_states, tokens_under}
-use Rattle.set_matcher.proofs.lemmas.Automata.{before_bytes, bytes_after, no_matches, three_runs}
+use Rattle.set_matcher.proofs.lemmas.Automata.{before_bytes, by_tokens, component_bytes, no_matches, three_runs}
 use Rattle.set_matcher.proofs.lemmas.Slots.{nfa_by_slot, tokens_by_slot}
 use Rattle.set_matcher.proofs.lemmas.Visits.{looked_runs}
 use Rattle.set_matcher.proofs.automata.Automata.find.Goals as goal
@@ -20,7 +21,7 @@ returns-then-is_idle-clause-idle c = λ off.
       size = omega (arith, nil, last);
       none = λ t are k found. ⊎_elim {C = ⊥} (λ by_path. no_matches c.args.self.now.by_path t.by_path path k (omega (arith, nil)) are.path bytes by_path)
           (λ later. ⊎_elim {C = ⊥}
-          (λ by_component. no_matches c.args.self.now.by_component t.by_component (last_component path) k (omega (arith, nil)) are.component (bytes_after (last_position is_separator path) path bytes) by_component)
+          (λ by_component. no_matches c.args.self.now.by_component t.by_component (last_component path) k (omega (arith, nil)) are.component (component_bytes path bytes) by_component)
           (λ by_slot. no_matches (nfa_at c.args.self.now.extensions.nfas c.slot_of-slot.result) (tokens_under t.by_slot c.args.self.now.extensions.slots (component_extension path)) (before_extension path) k (omega (arith, nil))
           (tokens_by_slot {a = c.args.self.now} {b = c.args.self.now} c.slot_of-slot.result (component_extension path) t.by_slot refl c.slot_of-slot.ensures.held c.slot_of-slot.ensures.slot are.matchers)
           (before_bytes path bytes) by_slot) later) found;
@@ -35,10 +36,14 @@ returns-clause-found c = λ on. record {
   room = omega (arith, c.in_ok-reserve.ensures.ok, c.index_count.ensures, c.in_ok-run.ensures.room, c.in_ok-run-2.ensures.room, c.in_ok-find.ensures.room);
   same = λ t are k.
       let extension_tokens = tokens_under t.by_slot c.args.self.now.extensions.slots (component_extension c.args.path.now) in
-      let one = c.in_ok-run.ensures.found t.by_path (subst (λ (a : AutomataParts). IsFor a.by_path t.by_path) (sym c.self.view_is) are.path) k in
-      let two = c.in_ok-run-2.ensures.found t.by_component (subst (λ (a : AutomataParts). IsFor a.by_component t.by_component) (sym c.self.view_is) are.component) k in
+      let path = c.args.path.now in
+      let bytes = c.requires.bytes in
+      let path_for = subst (λ (a : AutomataParts). IsFor a.by_path t.by_path) (sym c.self.view_is) are.path in
+      let one = by_tokens (reached_matches c.self.inside.by_path t.by_path path k path_for bytes) (c.in_ok-run.ensures.found k) in
+      let component_for = subst (λ (a : AutomataParts). IsFor a.by_component t.by_component) (sym c.self.view_is) are.component in
+      let two = by_tokens (reached_matches c.self.inside.by_component t.by_component (last_component path) k component_for (component_bytes path bytes)) (c.in_ok-run-2.ensures.found k) in
       let are_for = tokens_by_slot c.slot_of-slot.result (component_extension c.args.path.now) t.by_slot c.self.view_is c.slot_of-slot.ensures.held c.slot_of-slot.ensures.slot are.matchers in
-      let three = c.in_ok-find.ensures.found extension_tokens are_for k in
+      let three = by_tokens (reached_matches (nfa_at c.self.inside.extensions.nfas c.slot_of-slot.result) extension_tokens (before_extension path) k are_for (before_bytes path bytes)) (c.in_ok-find.ensures.found k) in
       let empty = c.in_ok-reserve.ensures.has k ∙ c.clear.ensures.none k in three_runs (λ h. true≢false (sym h ∙ empty)) one two three;
 }
 

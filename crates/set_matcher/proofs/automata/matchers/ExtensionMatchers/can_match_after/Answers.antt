@@ -1,9 +1,10 @@
 use Rattle.std.proofs.Common.{◌≡◌, ◌+◌, ◌*◌, ◌<◌, ◌≤◌, ◌++◌, ◌∷◌, [], List, get_or, length, refl, ap, sym, subst, ◌∙◌, true≢false, arith}
 use Rattle.std.proofs.lemmas.List.{take_all}
+use Rattle.byte_nfa.specs.Live.{MatchesAfter}
 use Rattle.byte_nfa.specs.Steps.{NfaValue}
-use Rattle.set_matcher.specs.inner.Automata.{ExtensionParts, no_nfa, total_reads}
+use Rattle.set_matcher.specs.inner.Automata.{ExtensionParts, total_reads}
 use Rattle.set_matcher.specs.inner.Caches.{IsCacheAt}
-use Rattle.set_matcher.proofs.lemmas.ExtensionMatchers.{any_default, is_for, none_limit, size_within, visits_more, visits_within}
+use Rattle.set_matcher.proofs.lemmas.ExtensionMatchers.{is_at, none_limit, size_within, visits_more, visits_within}
 use Rattle.set_matcher.proofs.automata.matchers.ExtensionMatchers.can_match_after.Goals as goal
 
 pub loop-slot-preserved : goal.loop-slot-preserved
@@ -16,8 +17,7 @@ loop-slot-preserved c =
     let lt : i < length nfas = omega (arith, c.loop-slot-test.true, ap length same) in
     let is = subst (λ (ms : List NfaValue). m ≡ get_or ms i m) same c.automaton-item.is in
     record {
-      none = λ by_slot are. none_limit by_slot i (c.args.text.now ++ c.args.byte ∷ []) (inv.none by_slot are)
-          (λ some. true≢false (sym ((c.in_ok-can_match_after.ensures.some (by_slot i) (is_for nfas i m lt is by_slot are)).1 some) ∙ c.if-branch.false));
+      none = none_limit nfas i m lt is {P = λ x. MatchesAfter x (c.args.text.now ++ c.args.byte ∷ [])} inv.none (λ some. true≢false (sym (c.in_ok-can_match_after.ensures.some.1 some) ∙ c.if-branch.false));
       caches = c.can_match_after.ensures.caches ∙ inv.caches;
       kept = omega (arith, c.can_match_after.ensures.kept, inv.kept);
       visits = visits_more nfas i m lt is (length c.args.text.now + 2) c.args.visits.now c.loop-slot.visits c.can_match_after.new.visits c.can_match_after.ensures.visits inv.visits;
@@ -25,14 +25,15 @@ loop-slot-preserved c =
     }
 
 pub returns-then-branch-clause-some : goal.returns-then-branch-clause-some
-returns-then-branch-clause-some c = λ by_slot are.
+returns-then-branch-clause-some c =
     let nfas = c.args.self.now.nfas in
     let i = c.loop-slot.slot in
     let m = c.automaton-item.result in
     let same : c.deref-automaton-items.result.now ≡ nfas = c.deref-automaton-items.ensures.value ∙ ap (λ (e : ExtensionParts). e.nfas) c.self.view_is in
     let lt : i < length nfas = omega (arith, c.loop-slot-test.true, ap length same) in
     let is = subst (λ (ms : List NfaValue). m ≡ get_or ms i m) same c.automaton-item.is in
-    (λ yes. (i, lt, (c.in_ok-can_match_after.ensures.some (by_slot i) (is_for nfas i m lt is by_slot are)).0 c.if-branch.true), λ some. refl)
+    let y = c.args.text.now ++ c.args.byte ∷ [] in
+    (λ yes. (i, lt, subst (λ x. MatchesAfter x y) (is_at nfas i m lt is) (c.in_ok-can_match_after.ensures.some.0 c.if-branch.true)), λ some. refl)
 
 pub returns-then-branch-clause-visits : goal.returns-then-branch-clause-visits
 returns-then-branch-clause-visits c =
@@ -66,11 +67,11 @@ returns-in_err-can_match_after-clause-room c = λ enough.
     absurd (true≢false (sym (c.in_err-can_match_after.ensures.memory (omega (arith, size, enough, c.loop-slot.invariant.kept)))))
 
 pub returns-clause-some : goal.returns-clause-some
-returns-clause-some c = λ by_slot are.
+returns-clause-some c =
     let nfas = c.args.self.now.nfas in
     let same : c.deref-automaton-items.result.now ≡ nfas = c.deref-automaton-items.ensures.value ∙ ap (λ (e : ExtensionParts). e.nfas) c.self.view_is in (
       λ yes. absurd (true≢false (sym yes)),
-      λ (s, lt, some). absurd (c.loop-slot.invariant.none by_slot are (s, omega (arith, lt, c.loop-slot-test.false, ap length same), some)),
+      λ (s, lt, some). absurd (c.loop-slot.invariant.none s (omega (arith, lt, c.loop-slot-test.false, ap length same)) some),
     )
 
 pub returns-in_err-can_match_after-clause-kept : goal.returns-in_err-can_match_after-clause-kept
@@ -106,4 +107,4 @@ can_match_after-requires c =
     let same : c.deref-automaton-items.result.now ≡ nfas = c.deref-automaton-items.ensures.value ∙ ap (λ (e : ExtensionParts). e.nfas) c.self.view_is in
     let lt : i < length nfas = omega (arith, c.loop-slot-test.true, ap length same) in
     let is = subst (λ (ms : List NfaValue). m ≡ get_or ms i m) same c.automaton-item.is in
-    subst (λ cs. IsCacheAt cs i m) (sym c.loop-slot.invariant.caches) (subst (IsCacheAt c.args.caches.now i) (sym (is ∙ any_default nfas i m (no_nfa 0) lt)) (c.requires i))
+    subst (λ cs. IsCacheAt cs i m) (sym c.loop-slot.invariant.caches) (subst (IsCacheAt c.args.caches.now i) (sym (is_at nfas i m lt is)) (c.requires i))

@@ -2,7 +2,7 @@
 
 ghost use Rattle.std.specs.Prelude.{◌≡◌, ◌≤◌, ◌^◌, ◌↔◌, ℕ, MatchOption, IfOk, IsOk, IsOkUnless, OnOk, OnErr, IsTrue};
 ghost use Rattle.glob_text.specs.Errors.{out_of_memory};
-ghost use Rattle.engine.specs.ScratchValue.{FitsAsBefore, HasCapacity, raised};
+ghost use Rattle.globset_glob.specs.ScratchValue.{FitsAsBefore, HasCapacity, raised};
 
 use bit_sets::IndexSet;
 use byte_nfa::StateSets;
@@ -78,7 +78,7 @@ impl Model for Scratch {
     ghost use Rattle.std.specs.Prelude.{◌≤◌};
     ghost use Rattle.bit_sets.specs.Indexes.{index_capacity};
     ghost use Rattle.byte_nfa.specs.Sets.{sets_capacity};
-    ghost use Rattle.engine.specs.ScratchValue.{ScratchValue};
+    ghost use Rattle.globset_glob.specs.ScratchValue.{ScratchValue};
 
     ghost Value = { ScratchValue };
 
