@@ -14,8 +14,3 @@ pub mod Frames
 pub mod IndexedTokens
 pub mod Spelling
 pub mod TokenStates
-pub mod LiteralIndex
-pub mod Folders
-pub mod KeysBelow
-pub mod More
-pub mod Shared

@@ -5,6 +5,4 @@ pub mod Direct
 pub mod StrategyMeaning
 pub mod Below
 pub mod IndexedTokens
-pub mod LiteralIndex
-pub mod KeysBelow
 pub mod inner

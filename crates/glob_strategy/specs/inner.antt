@@ -3,5 +3,3 @@ pub mod DecidedByKey
 pub mod FlatTests
 pub mod Frames
 pub mod TokenStates
-pub mod Folders
-pub mod Parts

@@ -12,3 +12,7 @@ pub mod Tables
 pub mod Shared
 pub mod Visits
 pub mod ExtensionSlots
+pub mod LiteralIndex
+pub mod Folders
+pub mod KeysBelow
+pub mod More

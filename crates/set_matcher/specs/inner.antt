@@ -5,3 +5,7 @@ pub mod SetMatcher
 pub mod ExtensionSlots
 pub mod Caches
 pub mod TokenGlobs
+pub mod Folders
+pub mod Parts
+pub mod LiteralIndex
+pub mod KeysBelow

@@ -8,6 +8,8 @@
 
 mod automata;
 mod caches;
+mod folders;
+mod literal_index;
 mod matcher;
 mod path_part;
 

@@ -24,13 +24,11 @@ ghost use Rattle.set_matcher.specs.Work.{load, load_below, max_set_visits, max_s
 
 use crate::automata::{Automata, AutomataBuilder, Target};
 use crate::caches::Caches;
+use crate::literal_index::{LiteralIndex, LiteralIndexBuilder};
 use bit_sets::{IndexSet, Visits};
 use byte_nfa::StateSets;
 use glob_path::{Candidate, PathParts};
-use glob_strategy::{
-    LiteralIndex, LiteralIndexBuilder, MatchStrategy, strategy_of, tokens_after_prefix,
-    tokens_before_ending,
-};
+use glob_strategy::{MatchStrategy, strategy_of, tokens_after_prefix, tokens_before_ending};
 use glob_syntax::{Options, Token};
 use glob_text::GivenGlobs;
 use std::alloc::{AllocError, Global};

@@ -10,7 +10,7 @@ use Rattle.byte_nfa.specs.Steps.{NfaValue}
 use Rattle.bit_sets.specs.Texts.{AllBytes}
 use Rattle.glob_strategy.specs.IndexedTokens.{IndexedTokens, SomeMeanAfter}
 use Rattle.glob_strategy.proofs.lemmas.IndexedTokens.{after_matches}
-use Rattle.glob_strategy.specs.KeysBelow.{MatchesBelow}
+use Rattle.set_matcher.specs.inner.KeysBelow.{MatchesBelow}
 use Rattle.set_matcher.specs.inner.TokenGlobs.{TokenGlob, SomeReportedBelow}
 use Rattle.set_matcher.specs.Visits.{visits_below_for}
 use Rattle.set_matcher.specs.inner.Automata.{AreFor, AreFoundBelow, SomeExtensionAfter, SomeLeadsAfter, max_size, no_nfa, total_reads}

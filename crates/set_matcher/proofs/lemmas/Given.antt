@@ -9,7 +9,7 @@ use Rattle.glob_syntax.specs.StatesPerByte.{states_per_byte}
 use Rattle.glob_syntax.specs.Token.{Tokens}
 use Rattle.glob_syntax.specs.inner.Weight.{weight}
 use Rattle.glob_path.specs.Below.{path_below}
-use Rattle.glob_strategy.specs.LiteralIndex.{KeyParts}
+use Rattle.set_matcher.specs.inner.LiteralIndex.{KeyParts}
 use Rattle.glob_strategy.specs.Direct.{is_direct, needs_automaton}
 use Rattle.glob_text.specs.Cost.{cost}
 use Rattle.glob_text.specs.GlobMatches.{GlobValue, IsRead, glob_matches, tokens_of_glob}

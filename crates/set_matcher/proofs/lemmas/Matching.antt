@@ -9,7 +9,7 @@ use Rattle.std.proofs.lemmas.List.Sums.{sum_by-append}
 use Rattle.std.proofs.lemmas.Map.Steps.{le-length_from_below}
 use Rattle.set_matcher.specs.inner.TokenGlobs.{TokenGlob, is_reported, is_reported_at, reported_indexes}
 use Rattle.set_matcher.specs.Indexes.{ContainsAllBelow}
-use Rattle.glob_strategy.specs.LiteralIndex.{keys_found}
+use Rattle.set_matcher.specs.inner.LiteralIndex.{keys_found}
 use Rattle.set_matcher.specs.inner.Automata.{AreFound, AreIdle}
 use Rattle.set_matcher.specs.inner.SetMatcher.{SetMatcherParts, IsSetMatcherOf, listed_count}
 use Rattle.set_matcher.proofs.lemmas.Indexes.{passing_is_contained, contained_passes, passes_within, all_pass}

@@ -21,8 +21,8 @@ use Rattle.glob_strategy.specs.Direct.{is_direct, needs_automaton}
 use Rattle.glob_strategy.specs.Strategies.{after_prefix, before_ending}
 use Rattle.glob_strategy.proofs.lemmas.BeforeEnding.{weight_before}
 use Rattle.set_matcher.specs.inner.TokenGlobs.{TokenGlob, is_reported, is_reported_at, reads, load, SomeReportedBelow, load_below, reads_below}
-use Rattle.glob_strategy.specs.KeysBelow.{MatchesBelow}
-use Rattle.glob_strategy.specs.LiteralIndex.{KeyParts, MoreIn, keys_found}
+use Rattle.set_matcher.specs.inner.KeysBelow.{MatchesBelow}
+use Rattle.set_matcher.specs.inner.LiteralIndex.{KeyParts, MoreIn, keys_found}
 use Rattle.set_matcher.specs.inner.Automata.{AutomataParts, TokenLists, AreForLists, AreFound, AreFoundBelow, AddsTokens, before_extension, folder_reads, no_automata, no_nfa, reads_for, tokens_under}
 use Rattle.set_matcher.specs.inner.Builders.{AddsTo, AddsToExtension}
 use Rattle.set_matcher.specs.declared.automata.Target.TheVariants.{Path, LastComponent}

@@ -5,8 +5,8 @@ use Rattle.set_matcher.specs.inner.TokenGlobs.{TokenGlob, is_reported, is_report
 use Rattle.bit_sets.specs.Texts.{AllBytes}
 use Rattle.glob_text.specs.GlobMatches.{GlobValue, IsRead}
 use Rattle.set_matcher.specs.Work as work
-use Rattle.glob_strategy.specs.KeysBelow.{MatchesBelow}
-use Rattle.glob_strategy.specs.LiteralIndex.{KeyParts, keys_found}
+use Rattle.set_matcher.specs.inner.KeysBelow.{MatchesBelow}
+use Rattle.set_matcher.specs.inner.LiteralIndex.{KeyParts, keys_found}
 use Rattle.set_matcher.specs.inner.Automata.{AutomataParts, TokenLists, AreForLists, AreFound, AreFoundBelow, automata_or_none, folder_reads, reads_for}
 
 -- the keys of globs, and automata for the globs without a key

@@ -1,4 +1,6 @@
 use Rattle.std.proofs.Common.{◌≡◌, refl, ap, sym, subst, ◌∙◌}
+use Rattle.std.proofs.lemmas.Result.{on_ok_weaker}
+use Rattle.glob_path.specs.Key.{key_seen}
 use Rattle.glob_syntax.specs.Views.{tokens_of}
 use Rattle.glob_strategy.specs.IndexedTokens.{indexed}
 use Rattle.set_matcher.specs.declared.automata.Target.TheVariants.{LastComponent, Extension}
@@ -6,8 +8,10 @@ use Rattle.set_matcher.specs.inner.Automata.{automata_or_none}
 use Rattle.set_matcher.specs.inner.Builders.{AddsTo}
 use Rattle.set_matcher.specs.inner.TokenGlobs.{is_reported, token_glob}
 use Rattle.set_matcher.specs.inner.SetMatcher.{set_matcher_parts}
+use Rattle.set_matcher.proofs.lemmas.LiteralIndex.{finds_key}
+use Rattle.set_matcher.proofs.lemmas.More.{below_key}
 use Rattle.set_matcher.proofs.lemmas.NoAutomata.{kept_is}
-use Rattle.set_matcher.proofs.lemmas.SetMatcher.{as_listed, key_added, excluded_added, both_on_ok, by_path_added, by_component_added, by_extension_added}
+use Rattle.set_matcher.proofs.lemmas.SetMatcher.{as_listed, key_added, excluded_added, by_path_added, by_component_added, by_extension_added}
 use Rattle.set_matcher.proofs.matcher.put.Goals as goal
 use Rattle.set_matcher.proofs.matcher.put.Goals.{in-RequiredExtension, in-BasenameRegex, in-Regex, in-Some, in-None+in_ok-builder-in-None}
 
@@ -20,10 +24,12 @@ pub returns-in-Key-clause-matcher : goal.returns-in-Key-clause-matcher
 returns-in-Key-clause-matcher c =
     let is = rw c.in-Key.is at c.in_ok-strategy_of.ensures in
     let g = token_glob c.args.options (tokens_of c.args.tokens.now) in
-    both_on_ok c.add.result
-    (λ more below globs at before. key_added globs g c.args.index c.args.keys.now c.add.new.self (automata_or_none c.args.count c.args.automata.now) at
-    (λ path. more path (is_reported g path) (is.tells path)) (λ folder bytes. as_listed (below folder) (is.below folder bytes)) before)
-    c.add.ensures.found c.add.ensures.below
+    let key = key_seen c.in-Key.key in
+    on_ok_weaker c.add.result
+    (λ added globs at before. key_added globs g c.args.index c.args.keys.now c.add.new.self (automata_or_none c.args.count c.args.automata.now) at
+    (λ path. finds_key c.args.keys.now c.add.new.self key c.args.index added path (is_reported g path) (is.tells path))
+    (λ folder bytes. as_listed (below_key c.args.keys.now c.add.new.self key c.args.index added folder) (is.below folder bytes)) before)
+    c.add.ensures
 
 pub returns-clause-matcher : goal.returns-clause-matcher
 returns-clause-matcher c =

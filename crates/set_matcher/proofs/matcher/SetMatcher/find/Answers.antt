@@ -6,7 +6,7 @@ use Rattle.set_matcher.specs.inner.TokenGlobs.{TokenGlob, token_globs}
 use Rattle.set_matcher.specs.SetMatcherValue.{SetMatcherValue, matcher_globs}
 use Rattle.set_matcher.specs.inner.Automata.{AreFound, AreIdle, IsFoundSet, automata_or_none, reads_for}
 use Rattle.set_matcher.specs.inner.SetMatcher.{IsSetMatcherOf, SetMatcherParts, set_matcher_parts}
-use Rattle.glob_strategy.proofs.lemmas.LiteralIndex.{nothing_if}
+use Rattle.set_matcher.proofs.lemmas.LiteralIndex.{nothing_if}
 use Rattle.set_matcher.proofs.lemmas.Given.{found_is, globs_count, with_stored}
 use Rattle.set_matcher.proofs.lemmas.Matching.{marked_are, marked_listed, nothing_listed}
 use Rattle.set_matcher.proofs.lemmas.NoAutomata.{kept_is, none_idle}

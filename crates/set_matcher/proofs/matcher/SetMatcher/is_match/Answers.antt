@@ -1,7 +1,7 @@
 use Rattle.std.proofs.Common.{ℕ, List, ap, sym, subst, true, false, true≢false, arith, ◌∙◌}
 use Rattle.std.specs.Prelude.{◌≢◌, ◌↔◌, IsTrue, []}
 use Rattle.std.proofs.lemmas.Result.{IfOk-weaker}
-use Rattle.glob_strategy.specs.LiteralIndex.{keys_found}
+use Rattle.set_matcher.specs.inner.LiteralIndex.{keys_found}
 use Rattle.set_matcher.specs.inner.TokenGlobs.{token_globs}
 use Rattle.set_matcher.specs.SetMatcherValue.{matcher_globs}
 use Rattle.set_matcher.specs.inner.Automata.{automata_or_none}
