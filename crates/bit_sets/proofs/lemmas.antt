@@ -7,3 +7,5 @@ pub mod FirstWord
 pub mod IndexSets
 pub mod Filters
 pub mod Lists
+pub mod Booleans
+pub mod Cuts

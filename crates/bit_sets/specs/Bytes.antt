@@ -1,11 +1,15 @@
 -- Sets of bytes.
-use Rattle.std.specs.Prelude.{ℕ, ◌<◌, Bool, not, true, false, List, [], slice_index_or, IsTrue}
+use Rattle.std.specs.Prelude.{◌≡◌, ℕ, ◌<◌, Bool, not, true, false, List, [], slice_index_or, IsTrue}
 use Rattle.bit_sets.specs.Bits.{bit_of}
 use Rattle.bit_sets.specs.declared.byte_set.ByteSet.{ByteSet}
 
 -- the set has the byte c
 abbrev pub has_byte : ByteSet → ℕ → Bool
 has_byte set c = bit_of set.words c
+
+-- the set has the bytes that pass the test
+abbrev pub IsSetOf : (ℕ → Bool) → ByteSet → Type 0
+IsSetOf test set = (c : ℕ) → c < 256 → has_byte set c ≡ test c
 
 -- the set of no byte
 abbrev pub no_bytes : ByteSet

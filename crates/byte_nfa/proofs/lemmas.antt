@@ -13,3 +13,5 @@ pub mod After
 pub mod Running
 pub mod Stepping
 pub mod Listing
+pub mod Leading
+pub mod Growing

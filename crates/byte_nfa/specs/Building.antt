@@ -14,6 +14,12 @@ Keeps old new = (length old ≤ length new) × Agrees new old 0 (length old)
 abbrev pub Adds : List State → List State → ℕ → State → Type 0
 Adds old new s st = (a : List State) (low : ℕ) → low ≤ length old → Agrees a new low (length new) → state a s ≡ st
 
+-- states were added, and nothing else changed
+pub record Grows (old new : NfaValue) : Type 0 where
+  pub keeps : Keeps old.states new.states
+  pub starts : new.starts ≡ old.starts
+  pub index_count : new.index_count ≡ old.index_count
+
 -- the state st was pushed, and has the number s; `keeps` and `adds` follow from `states`
 pub record Pushes (old new : NfaValue) (s : ℕ) (st : State) : Type 0 where
   pub at : s ≡ length old.states

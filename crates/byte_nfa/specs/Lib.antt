@@ -1,5 +1,6 @@
 pub mod Steps
 pub mod Building
+pub mod Leading
 pub mod Runs
 pub mod Reading
 pub mod Live

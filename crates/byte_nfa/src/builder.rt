@@ -1,9 +1,11 @@
 //! How an automaton is made.
 
-ghost use Rattle.std.specs.Prelude.{◌≡◌, ℕ, ◌<◌, ◌++◌, ◌∷◌, [], List, length, OnOk, OnErr, IfOk};
+ghost use Rattle.std.specs.Prelude.{◌≡◌, ℕ, ◌+◌, ◌<◌, ◌||◌, ◌++◌, ◌∷◌, [], List, length, OnOk, OnErr, IfOk};
 ghost use Rattle.byte_nfa.specs.Steps.{NfaValue, bytes_state, union_state, loop_state, match_state};
 ghost use Rattle.bit_sets.specs.Numbers.{AreBelow};
-ghost use Rattle.byte_nfa.specs.Building.{Pushes};
+ghost use Rattle.bit_sets.specs.Texts.{ends_with, is_empty};
+ghost use Rattle.byte_nfa.specs.Building.{Grows, Pushes};
+ghost use Rattle.byte_nfa.specs.Leading.{Builds};
 ghost use Rattle.byte_nfa.specs.Runs.{size};
 ghost use Rattle.byte_nfa.specs.inner.Views.{AreSound, nfa};
 
@@ -29,7 +31,7 @@ use std::marker::Model;
 /// let automaton = builder.finish();
 /// ```
 ///
-/// A call that pushes changes nothing if it fails. Equal sets of bytes are stored once, as far as they are found again, and have
+/// A call that pushes a state changes nothing if it fails. Equal sets of bytes are stored once, as far as they are found again, and have
 /// numbers below `2^32`: if sets of 128 GiB use these up, the error is that memory ran out.
 pub struct Builder {
     states: Vec<State>,
@@ -119,6 +121,23 @@ impl Builder {
         let set = self.sets.number_of(bytes)?;
         self.states.push(State::Loop(set, exit))?;
         Ok(at)
+    }
+
+    /// Pushes states that go on to a state without a byte, or after any bytes that end with this byte. Returns where they begin.
+    ///
+    /// If it fails, some of them may have been pushed.
+    pub fn push_up_to(&mut self, byte: u8, exit: usize) -> Result<usize, AllocError>
+        requires { exit < size self.old }
+        ensures within { IfOk result (λ s. s < size self.new) }
+        ensures count { OnOk result (size self.new ≡ size self.old + 3) }
+        ensures grows { Grows self.old self.new }
+        ensures builds { IfOk result
+            (λ s. Builds (λ y. is_empty y || ends_with byte y) self.old.states self.new.states s
+            exit) }
+    {
+        let last = self.push_bytes(ByteSet::only(byte), exit)?;
+        let stay = self.push_loop(ByteSet::everything(), last)?;
+        self.push_union(&[exit, stay])
     }
 
     /// Pushes an end, which names an index. Returns its number.

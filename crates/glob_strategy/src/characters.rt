@@ -7,8 +7,9 @@ ghost use Rattle.std.specs.Prelude.{◌≡◌, ◌+◌, ◌<◌, ◌∷◌, [], 
 ghost use Rattle.byte_nfa.specs.Runs.{size};
 ghost use Rattle.glob_syntax.specs.Characters.{is_between};
 ghost use Rattle.glob_syntax.specs.inner.CharacterRows.{continues, is_ascii_wild, begins_three};
-ghost use Rattle.glob_strategy.specs.inner.TokenStates.{IsSetOf};
-ghost use Rattle.glob_strategy.specs.inner.Building.{Grows, BuildsRow, BuildsCharacter};
+ghost use Rattle.bit_sets.specs.Bytes.{IsSetOf};
+ghost use Rattle.glob_strategy.specs.inner.Building.{BuildsRow, BuildsCharacter};
+ghost use Rattle.byte_nfa.specs.Building.{Grows};
 
 use bit_sets::ByteSet;
 use byte_nfa::Builder;

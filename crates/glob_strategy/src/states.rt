@@ -8,8 +8,10 @@ ghost use Rattle.glob_syntax.specs.Views.{flat_of, flats, tokens_of};
 ghost use Rattle.glob_syntax.specs.inner.Weight.{any_weight, weight};
 ghost use Rattle.glob_syntax.specs.TokenMatches.{is_wild};
 ghost use Rattle.byte_nfa.specs.Runs.{size, max_reads};
-ghost use Rattle.glob_strategy.specs.inner.TokenStates.{IsSetOf, is_letter};
-ghost use Rattle.glob_strategy.specs.inner.Building.{Grows, BuildsText, BuildsToSlash, BuildsToken, BuildsWhole, Builds};
+ghost use Rattle.glob_strategy.specs.inner.TokenStates.{is_letter};
+ghost use Rattle.bit_sets.specs.Bytes.{IsSetOf};
+ghost use Rattle.glob_strategy.specs.inner.Building.{BuildsText, BuildsToken, BuildsWhole, Builds};
+ghost use Rattle.byte_nfa.specs.Building.{Grows};
 ghost use Rattle.glob_strategy.specs.inner.Frames.{flat_weight, BuildsFlat};
 ghost use Rattle.glob_syntax.specs.TokensMatch.{is_prefix_alone};
 ghost use Rattle.glob_strategy.specs.IndexedTokens.{IndexedTokens, indexed, IsFor};
@@ -74,19 +76,6 @@ fn add_text(
     Ok(at)
 }
 
-/// Adds the states of nothing, or of any bytes that end in `/`.
-fn add_to_slash(builder: &mut Builder, exit: usize) -> Result<usize, AllocError>
-    requires { exit < size builder.old }
-    ensures within { IfOk result (λ s. s < size builder.new) }
-    ensures count { OnOk result (size builder.new ≡ size builder.old + 3) }
-    ensures grows { Grows builder.old builder.new }
-    ensures builds { IfOk result (λ s. BuildsToSlash builder.old.states builder.new.states s exit) }
-{
-    let slash = builder.push_bytes(ByteSet::only(b'/'), exit)?;
-    let stay = builder.push_loop(ByteSet::everything(), slash)?;
-    builder.push_union(&[exit, stay])
-}
-
 /// Adds the states of a `?`.
 fn add_any(builder: &mut Builder, options: Options, exit: usize) -> Result<usize, AllocError>
     requires { exit < size builder.old }
@@ -133,13 +122,13 @@ fn add_token(
         }
         Token::Any => add_any(builder, options, exit),
         Token::ZeroOrMore => builder.push_loop(wild_bytes(options), exit),
-        Token::RecursivePrefix => add_to_slash(builder, exit),
+        Token::RecursivePrefix => builder.push_up_to(b'/', exit),
         Token::RecursiveSuffix => {
             let rest = builder.push_loop(ByteSet::everything(), exit)?;
             builder.push_bytes(ByteSet::only(b'/'), rest)
         }
         Token::RecursiveZeroOrMore => {
-            let rest = add_to_slash(builder, exit)?;
+            let rest = builder.push_up_to(b'/', exit)?;
             builder.push_bytes(ByteSet::only(b'/'), rest)
         }
         Token::Class(class) => builder.push_bytes(class_bytes(options, class), exit),

@@ -10,9 +10,7 @@ pub mod Nesting
 pub mod UnclosedClasses
 pub mod Weights
 pub mod WellFormed
-pub mod Booleans
 pub mod Characters
-pub mod Cuts
 pub mod TokenMatches
 pub mod MatchesByParts
 pub mod TokenLists

@@ -3,6 +3,7 @@ use Rattle.std.specs.Prelude.{ℕ, Bool, true, false, not, ◌&&◌, ◌||◌, �
 use Rattle.std.specs.Char.{to_ascii_lowercase}
 use Rattle.std.specs.List.{list_all}
 use Rattle.std.specs.Str.{bytes_eq}
+use Rattle.bit_sets.specs.Texts.{is_empty, is_one_byte, some_cut}
 use Rattle.glob_syntax.specs.declared.options.Options.{Options}
 use Rattle.glob_syntax.specs.Token.{Token, Literal, Any, ZeroOrMore, RecursivePrefix, RecursiveSuffix, RecursiveZeroOrMore, Class, Group, Tokens, end, and_then, Branches, none, branch}
 use Rattle.glob_syntax.specs.Blank.{is_kept, any_kept}
@@ -15,17 +16,6 @@ use Rattle.glob_syntax.specs.ClassBytes.{class_has}
 abbrev pub slash : ℕ
 slash = 47
 
--- the list is empty
-abbrev pub is_empty : List ℕ → Bool
-is_empty [] = true
-is_empty (c ∷ cs) = false
-
--- the list is a single byte, which passes the test
-abbrev pub is_one_byte : (ℕ → Bool) → List ℕ → Bool
-is_one_byte test [] = false
-is_one_byte test (c ∷ []) = test c
-is_one_byte test (c ∷ d ∷ rest) = false
-
 -- the first byte is `/`
 abbrev pub begins_with_slash : List ℕ → Bool
 begins_with_slash [] = false
@@ -36,11 +26,6 @@ abbrev pub ends_with_slash : List ℕ → Bool
 ends_with_slash [] = false
 ends_with_slash (c ∷ []) = c == slash
 ends_with_slash (c ∷ d ∷ rest) = ends_with_slash (d ∷ rest)
-
--- The list can be cut into two parts that pass the test. Either part may be empty.
-abbrev pub some_cut : (List ℕ → List ℕ → Bool) → List ℕ → Bool
-some_cut test [] = test [] []
-some_cut test (c ∷ cs) = test [] (c ∷ cs) || some_cut (λ front back. test (c ∷ front) back) cs
 
 -- ---- tokens
 

@@ -1,15 +1,12 @@
 pub mod Automata
 pub mod Below
-pub mod Booleans
 pub mod Building
 pub mod Classes
 pub mod Closers
 pub mod Compared
-pub mod Cuts
 pub mod Ends
 pub mod Inside
 pub mod LastComponents
-pub mod Leading
 pub mod Lines
 pub mod Lists
 pub mod Reading

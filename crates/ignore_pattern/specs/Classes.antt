@@ -5,7 +5,8 @@ use Rattle.std.specs.List.{list_any, position}
 use Rattle.std.specs.Option.{option_map}
 use Rattle.std.specs.Char.{is_ascii_alphabetic, is_ascii_alphanumeric, is_ascii_digit, is_ascii_hexdigit, is_ascii_lowercase, is_ascii_uppercase, is_ascii_punctuation, is_ascii_graphic, is_ascii_control, to_ascii_lowercase, to_ascii_uppercase}
 use Rattle.bit_sets.specs.Bytes.{differ}
-use Rattle.ignore_pattern.specs.Ends.{ends_with, without_last}
+use Rattle.ignore_pattern.specs.Ends.{without_last}
+use Rattle.bit_sets.specs.Texts.{ends_with}
 use Rattle.ignore_pattern.specs.declared.item.ClassName.{ClassName}
 use Rattle.ignore_pattern.specs.declared.item.ClassName.TheVariants.{Alnum, Alpha, Blank, Cntrl, Digit, Graph, Lower, Print, Punct, Space, Upper, Xdigit}
 use Rattle.ignore_pattern.specs.declared.item.Item.{Item}

@@ -3,7 +3,7 @@
 use Rattle.std.specs.Prelude.{ℕ, zero, suc, ◌+◌, Bool, true, false, not, ◌&&◌, ◌||◌, ◌==◌, nat_lt, List, [], ◌∷◌, drop, Option, Some, None, if◌then◌else◌}
 use Rattle.std.specs.List.{list_all, prefix_len}
 use Rattle.std.specs.Option.{option_map}
-use Rattle.ignore_pattern.specs.Ends.{ends_with}
+use Rattle.bit_sets.specs.Texts.{ends_with, is_empty, is_one_byte, some_cut}
 use Rattle.ignore_pattern.specs.Classes.{compared, class_items, class_matches}
 use Rattle.ignore_pattern.specs.declared.item.Item.{Item}
 use Rattle.ignore_pattern.specs.declared.place.Place.{Place}
@@ -28,17 +28,6 @@ pub data Element : Type 0 where
 
 -- ---- matching
 
--- there are no bytes
-abbrev pub is_empty : List ℕ → Bool
-is_empty [] = true
-is_empty (c ∷ cs) = false
-
--- there is a single byte, which passes the test
-abbrev pub is_one_byte : (ℕ → Bool) → List ℕ → Bool
-is_one_byte test [] = false
-is_one_byte test (c ∷ []) = test c
-is_one_byte test (c ∷ d ∷ ds) = false
-
 -- the byte is not `/`
 abbrev pub is_inner : ℕ → Bool
 is_inner byte = not (byte == 47)
@@ -58,11 +47,6 @@ element_matches ignore_case Folders b = is_empty b || ends_with 47 b
 -- any bytes, or none
 element_matches ignore_case Everything b = true
 element_matches ignore_case (Class negated items) b = is_one_byte (class_matches ignore_case negated items) b
-
--- the bytes can be cut into two parts that pass the test; either may be empty
-abbrev pub some_cut : (List ℕ → List ℕ → Bool) → List ℕ → Bool
-some_cut test [] = test [] []
-some_cut test (c ∷ cs) = test [] (c ∷ cs) || some_cut (λ front back. test (c ∷ front) back) cs
 
 -- the elements match the bytes in order
 unfoldable pub elements_match : Bool → List Element → List ℕ → Bool

@@ -11,12 +11,6 @@ abbrev pub without_first : ℕ → List ℕ → List ℕ
 without_first c [] = []
 without_first c (d ∷ ds) = if c == d then ds else d ∷ ds
 
--- this is the last
-abbrev pub ends_with : ℕ → List ℕ → Bool
-ends_with c [] = false
-ends_with c (d ∷ []) = c == d
-ends_with c (d ∷ e ∷ es) = ends_with c (e ∷ es)
-
 -- the others, if this is the last, and otherwise all
 abbrev pub without_last : ℕ → List ℕ → List ℕ
 without_last c [] = []

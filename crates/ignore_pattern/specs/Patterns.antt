@@ -2,7 +2,8 @@
 -- or folder below the folder of the ignore file, from there on.
 use Rattle.std.specs.Prelude.{ℕ, zero, Bool, ◌==◌, ◌&&◌, ◌||◌, not, List, [], ◌∷◌, Option, Some, None, if◌then◌else◌}
 use Rattle.std.specs.List.{list_any}
-use Rattle.ignore_pattern.specs.Ends.{begins_with, without_first, ends_with, without_last}
+use Rattle.ignore_pattern.specs.Ends.{begins_with, without_first, without_last}
+use Rattle.bit_sets.specs.Texts.{ends_with}
 use Rattle.ignore_pattern.specs.Lines.{line_text}
 use Rattle.ignore_pattern.specs.Elements.{Element, elements, elements_match}
 use Rattle.ignore_pattern.specs.declared.place.Place.TheVariants.{Start}

@@ -4,10 +4,12 @@ ghost use Rattle.std.specs.Prelude.{◌≡◌, ◌<◌, ◌++◌, ◌∷◌, [],
 ghost use Rattle.byte_nfa.specs.Runs.{size};
 ghost use Rattle.ignore_pattern.specs.Automata.{IsAutomatonOf, above_index};
 ghost use Rattle.ignore_pattern.specs.Patterns.{Pattern, pattern_matches};
-ghost use Rattle.ignore_pattern.specs.inner.States.{Builds, Grows, BuildsPattern, HasBelow, IsFor};
+ghost use Rattle.ignore_pattern.specs.inner.States.{BuildsPattern, HasBelow, IsFor};
+ghost use Rattle.byte_nfa.specs.Building.{Grows};
+ghost use Rattle.byte_nfa.specs.Leading.{Builds};
 
 use crate::pattern::IgnorePattern;
-use crate::states::{push_below, push_elements, push_folders};
+use crate::states::{push_below, push_elements};
 use byte_nfa::{Builder, Nfa};
 use std::alloc::{AllocError, Global};
 
@@ -107,6 +109,6 @@ pub fn push_matching(
     if pattern.is_whole() {
         Ok(start)
     } else {
-        push_folders(builder, start)
+        builder.push_up_to(b'/', start)
     }
 }

@@ -3,7 +3,8 @@
 ghost use Rattle.std.specs.Prelude.{◌≡◌, ◌<◌, ◌++◌, ◌∷◌, [], List, IfOk, OnOk};
 ghost use Rattle.byte_nfa.specs.Runs.{size};
 ghost use Rattle.ignore_pattern.specs.Compared.{IndexedPattern, indexed, Compares};
-ghost use Rattle.ignore_pattern.specs.inner.States.{BuildsAlone, Grows};
+ghost use Rattle.ignore_pattern.specs.inner.States.{BuildsAlone};
+ghost use Rattle.byte_nfa.specs.Building.{Grows};
 
 use crate::automaton::push_matching;
 use crate::pattern::IgnorePattern;

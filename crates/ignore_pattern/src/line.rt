@@ -2,7 +2,8 @@
 
 ghost use Rattle.std.specs.Prelude.{◌≡◌, ◌≤◌, ◌==◌, not, drop, length, if◌then◌else◌, true, false, IfNone, IfSome};
 ghost use Rattle.std.specs.List.{prefix_len};
-ghost use Rattle.ignore_pattern.specs.Ends.{ends_with, without_last};
+ghost use Rattle.ignore_pattern.specs.Ends.{without_last};
+ghost use Rattle.bit_sets.specs.Texts.{ends_with};
 ghost use Rattle.ignore_pattern.specs.Lines.{line_text, before_nul, without_spaces};
 
 /// Returns the text of a line: the line without a carriage return at its end, up to its first NUL, and without the spaces

@@ -1,10 +1,13 @@
 //! The states of elements, from the last element to the first.
 
-ghost use Rattle.std.specs.Prelude.{◌<◌, ◌==◌, IfOk, false};
+ghost use Rattle.std.specs.Prelude.{◌<◌, ◌==◌, IfOk};
 ghost use Rattle.byte_nfa.specs.Runs.{size};
 ghost use Rattle.ignore_pattern.specs.Classes.{compared, class_matches};
-ghost use Rattle.ignore_pattern.specs.Elements.{Folders, is_inner, element_matches, elements_match};
-ghost use Rattle.ignore_pattern.specs.inner.States.{IsSetOf, Grows, Builds, BuildsBelow};
+ghost use Rattle.ignore_pattern.specs.Elements.{is_inner, element_matches, elements_match};
+ghost use Rattle.ignore_pattern.specs.inner.States.{BuildsBelow};
+ghost use Rattle.byte_nfa.specs.Building.{Grows};
+ghost use Rattle.byte_nfa.specs.Leading.{Builds};
+ghost use Rattle.bit_sets.specs.Bytes.{IsSetOf};
 ghost use Rattle.ignore_pattern.specs.inner.Views.{element_of, elements_of};
 
 use crate::class::class_matches;
@@ -55,19 +58,6 @@ fn class_bytes(ignore_case: bool, negated: bool, items: &[Item]) -> ByteSet
     ByteSet::from_table(&table)
 }
 
-/// Pushes the states of `**/`: nothing, or any bytes that end with `/`. Returns where they begin.
-pub fn push_folders(builder: &mut Builder, exit: usize) -> Result<usize, AllocError>
-    requires { exit < size builder.old }
-    ensures within { IfOk result (λ s. s < size builder.new) }
-    ensures grows { Grows builder.old builder.new }
-    ensures builds { IfOk result
-        (λ s. Builds (element_matches false Folders) builder.old.states builder.new.states s exit) }
-{
-    let slash = builder.push_bytes(ByteSet::only(b'/'), exit)?;
-    let stay = builder.push_loop(ByteSet::everything(), slash)?;
-    builder.push_union(&[exit, stay])
-}
-
 /// Pushes the states of `/` and whatever follows, which lead to an end that names an index. Returns where they begin.
 pub fn push_below(builder: &mut Builder, index: usize) -> Result<usize, AllocError>
     requires { index < builder.old.index_count }
@@ -99,7 +89,7 @@ fn push_element(
         Element::Escaped(byte) => builder.push_bytes(escaped_bytes(ignore_case, *byte), exit),
         Element::Any => builder.push_bytes(inner_bytes(), exit),
         Element::Star => builder.push_loop(inner_bytes(), exit),
-        Element::Folders => push_folders(builder, exit),
+        Element::Folders => builder.push_up_to(b'/', exit),
         Element::Everything => builder.push_loop(ByteSet::everything(), exit),
         Element::Class(negated, items) => {
             builder.push_bytes(class_bytes(ignore_case, *negated, items), exit)

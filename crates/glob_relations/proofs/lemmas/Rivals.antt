@@ -5,7 +5,7 @@ use Rattle.std.proofs.lemmas.Bool.{cases_lt}
 use Rattle.std.proofs.lemmas.List.Elements.{Contains-append_left, Contains-append_right, Contains-append_cases}
 use Rattle.std.proofs.Math.Logic.{⊎_elim}
 use Rattle.ignore_pattern.specs.Patterns.{Pattern, pattern_matches}
-use Rattle.ignore_pattern.proofs.lemmas.Booleans.{and_both, and_first, and_second}
+use Rattle.bit_sets.proofs.lemmas.Booleans.{and_both, and_first, and_second}
 use Rattle.glob_relations.specs.Answers.{some_match, IsMissed}
 use Rattle.glob_relations.specs.declared.domain.Domain.{Domain}
 use Rattle.glob_relations.specs.Shortest.{IsShortest}

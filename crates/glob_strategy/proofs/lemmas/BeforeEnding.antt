@@ -15,8 +15,8 @@ use Rattle.glob_syntax.specs.inner.Weight.{weight}
 use Rattle.glob_syntax.proofs.lemmas.FlatTokens.{onto_append}
 use Rattle.glob_syntax.specs.TokenMatches.{slash}
 use Rattle.glob_syntax.specs.TokensMatch.{is_prefix, is_prefix_alone, tokens_match}
-use Rattle.glob_syntax.proofs.lemmas.Booleans.{and_both, and_first, and_second, and_none, same_truth}
-use Rattle.glob_syntax.proofs.lemmas.Cuts.{empty_is}
+use Rattle.bit_sets.proofs.lemmas.Booleans.{and_both, and_first, and_second, and_none, same_truth}
+use Rattle.bit_sets.proofs.lemmas.Cuts.{empty_is}
 use Rattle.glob_syntax.proofs.lemmas.MatchesByParts.{AllMatch, then_matches}
 use Rattle.glob_strategy.specs.Excluded.{is_dot}
 use Rattle.glob_strategy.specs.TokenTests.{all_pass, some_all_pass, is_literal_except, literal_text, is_extension, ending}

@@ -2,42 +2,14 @@
 use Rattle.std.proofs.Common.{ℕ, ◌≤◌, Bool, List, [], ◌∷◌, ◌++◌, length, refl, sym, ◌∙◌, subst, arith}
 use Rattle.glob_syntax.specs.declared.options.Options.{Options}
 use Rattle.byte_nfa.specs.Steps.{State, bytes_state, union_state, NfaValue}
-use Rattle.byte_nfa.specs.Building.{Agrees, Keeps, Pushes}
+use Rattle.byte_nfa.specs.Building.{Agrees, Grows, Keeps, Pushes}
+use Rattle.byte_nfa.proofs.lemmas.Growing.{agrees_old, agrees_higher, grows_none, grows_then, grows_push}
 use Rattle.bit_sets.specs.declared.byte_set.ByteSet.{ByteSet}
 use Rattle.glob_syntax.specs.Characters.{is_between}
 use Rattle.glob_syntax.specs.inner.CharacterRows.{continues, begins_three, is_ascii_wild}
-use Rattle.glob_strategy.specs.inner.TokenStates.{IsSetOf, is_letter, ReadsEach}
-use Rattle.glob_strategy.specs.inner.Building.{Grows, BuildsText, BuildsRow, BuildsCharacter}
-
--- ---- growing
-
-pub grows_none : (m : NfaValue) → Grows m m
-grows_none m = record {
-  keeps = (omega arith, λ s low high. refl);
-  starts = refl;
-  index_count = refl;
-}
-
-pub grows_then : (m n r : NfaValue) → Grows m n → Grows n r → Grows m r
-grows_then m n r f g = record {
-  keeps = (let p = f.keeps.0 in let q = g.keeps.0 in omega arith, λ s low high. (let p = f.keeps.0 in g.keeps.1 s low (omega arith)) ∙ f.keeps.1 s low high);
-  starts = g.starts ∙ f.starts;
-  index_count = g.index_count ∙ f.index_count;
-}
-
-pub grows_push : (m n : NfaValue) (s : ℕ) (st : State) → Pushes m n s st → Grows m n
-grows_push m n s st p = record {
-  keeps = p.keeps;
-  starts = p.starts;
-  index_count = p.index_count;
-}
-
--- what agrees with the new states agrees with the old ones
-pub agrees_old : (a old new : List State) (low : ℕ) → Keeps old new → Agrees a new low (length new) → Agrees a old low (length old)
-agrees_old a old new low keeps agrees = λ s le lt. let more = keeps.0 in agrees s le (omega arith) ∙ keeps.1 s (omega arith) lt
-
-pub agrees_higher : (a new : List State) (low high : ℕ) → low ≤ high → Agrees a new low (length new) → Agrees a new high (length new)
-agrees_higher a new low high h agrees = λ s le lt. agrees s (omega arith) lt
+use Rattle.glob_strategy.specs.inner.TokenStates.{is_letter, ReadsEach}
+use Rattle.bit_sets.specs.Bytes.{IsSetOf}
+use Rattle.glob_strategy.specs.inner.Building.{BuildsText, BuildsRow, BuildsCharacter}
 
 -- ---- literals
 

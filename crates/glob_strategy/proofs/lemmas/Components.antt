@@ -9,7 +9,7 @@ use Rattle.std.proofs.lemmas.List.Prefix.{front_rest}
 use Rattle.std.proofs.lemmas.Str.{inside_one}
 use Rattle.glob_syntax.specs.TokenMatches.{slash}
 use Rattle.glob_path.specs.PathParts.{is_separator, is_dot, with_first, last_position, after_position, from_position, last_component, extension_in, component_extension}
-use Rattle.glob_syntax.proofs.lemmas.Booleans.{or_either}
+use Rattle.bit_sets.proofs.lemmas.Booleans.{or_either}
 use Rattle.glob_path.proofs.lemmas.LastPositions.{neither}
 
 -- the path ends with the text

@@ -4,7 +4,7 @@ use Rattle.std.proofs.lemmas.Bool.{or_parts}
 use Rattle.glob_syntax.specs.declared.options.Options.{Options}
 use Rattle.glob_syntax.specs.Token.{Tokens}
 use Rattle.glob_syntax.specs.TokensMatch.{is_prefix}
-use Rattle.glob_syntax.proofs.lemmas.Booleans.{and_none}
+use Rattle.bit_sets.proofs.lemmas.Booleans.{and_none}
 use Rattle.glob_strategy.specs.TokenTests.{first_and_rest, ending, is_whole_path, is_last_components, is_star_extension, is_end, is_beginning, is_below_folder}
 use Rattle.glob_strategy.specs.Strategies.{is_any_extension}
 use Rattle.glob_strategy.specs.Direct.{is_direct, has_ending, needs_automaton}

@@ -8,8 +8,8 @@ use Rattle.glob_syntax.specs.declared.options.Options.{Options}
 use Rattle.glob_syntax.specs.Token.{Token, Literal, ZeroOrMore, RecursivePrefix, RecursiveSuffix, Tokens, end, and_then}
 use Rattle.glob_syntax.specs.TokenMatches.{slash}
 use Rattle.glob_syntax.specs.TokensMatch.{is_prefix, is_prefix_alone, tokens_match}
-use Rattle.glob_syntax.proofs.lemmas.Booleans.{and_first, and_second, or_either}
-use Rattle.glob_syntax.proofs.lemmas.Cuts.{empty_is}
+use Rattle.bit_sets.proofs.lemmas.Booleans.{and_first, and_second, or_either}
+use Rattle.bit_sets.proofs.lemmas.Cuts.{empty_is}
 use Rattle.glob_syntax.proofs.lemmas.TokenLists.{prefix_is}
 use Rattle.glob_syntax.proofs.lemmas.MatchesByParts.{TokenMatches, AllMatch, suffix_matches, then_matches}
 use Rattle.glob_strategy.specs.TokenTests.{is_star, is_suffix, has_tokens, are_literals, first_and_rest, literals_and_last, literal_text, is_whole_path, is_last_components, is_star_literals, is_end, is_beginning, is_below_folder}

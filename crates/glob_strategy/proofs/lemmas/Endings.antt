@@ -9,7 +9,7 @@ use Rattle.glob_syntax.specs.Reading.{Levels, in_branch, open_level, first_branc
 use Rattle.glob_syntax.specs.FlatTokens.{Flat, simple, opening, comma, closing, levels_of, tree_of, Nests, IsNested}
 use Rattle.glob_syntax.specs.Views.{flat_of, flats}
 use Rattle.glob_syntax.proofs.lemmas.FlatTokens.{depth}
-use Rattle.glob_syntax.proofs.lemmas.Booleans.{and_both, and_first, and_second, and_none}
+use Rattle.bit_sets.proofs.lemmas.Booleans.{and_both, and_first, and_second, and_none}
 use Rattle.glob_strategy.specs.Excluded.{is_dot}
 use Rattle.glob_strategy.specs.TokenTests as tree
 use Rattle.glob_strategy.specs.inner.FlatTests as flat

@@ -11,7 +11,7 @@ use Rattle.glob_syntax.proofs.lemmas.FlatTrees.{shaped, in_first, open_here}
 use Rattle.glob_syntax.specs.TokenMatches.{slash}
 use Rattle.glob_syntax.specs.TokensMatch.{is_prefix}
 use Rattle.glob_syntax.specs.TokensMatch.{is_prefix_alone as tree_alone}
-use Rattle.glob_syntax.proofs.lemmas.Booleans.{and_first, and_second, and_none}
+use Rattle.bit_sets.proofs.lemmas.Booleans.{and_first, and_second, and_none}
 use Rattle.glob_strategy.specs.Excluded.{is_dot}
 use Rattle.glob_strategy.specs.Strategies as strategies
 use Rattle.glob_strategy.specs.TokenTests as tree

@@ -15,14 +15,14 @@ use Rattle.glob_syntax.proofs.lemmas.FlatTokens.{IsSole}
 use Rattle.glob_syntax.specs.Blank.{is_blank_token, is_kept, any_kept}
 use Rattle.byte_nfa.specs.Steps.{State, union_state, state, NfaValue}
 use Rattle.bit_sets.specs.Numbers.{AreBelow}
-use Rattle.byte_nfa.specs.Building.{Pushes}
+use Rattle.byte_nfa.specs.Building.{Pushes, Grows}
 use Rattle.byte_nfa.specs.Runs.{size}
 use Rattle.glob_strategy.specs.inner.TokenStates.{IsBuilt, IsBuiltToken, AreBuilt}
-use Rattle.glob_strategy.specs.inner.Building.{Grows, Builds, BuildsToken}
+use Rattle.glob_strategy.specs.inner.Building.{Builds, BuildsToken}
 use Rattle.glob_strategy.specs.inner.Frames.{Frame, frame_of, frames_of, fresh, led, with_start, ended, targets_of, AreOpen, AreBlank, AreWithin, levels_weight, Stands, flat_weight, BuildsFlat, IsNotBlank}
 use Rattle.glob_strategy.specs.declared.states.Frame as kept
-use Rattle.glob_syntax.proofs.lemmas.Booleans.{or_first}
-use Rattle.glob_strategy.proofs.lemmas.Building.{agrees_old, agrees_higher, grows_then, grows_push}
+use Rattle.bit_sets.proofs.lemmas.Booleans.{or_first}
+use Rattle.byte_nfa.proofs.lemmas.Growing.{agrees_old, agrees_higher, grows_then, grows_push}
 
 -- ---- frames as the program keeps them
 

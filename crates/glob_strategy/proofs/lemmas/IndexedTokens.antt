@@ -8,18 +8,19 @@ use Rattle.glob_syntax.specs.inner.Weight.{weight}
 use Rattle.glob_syntax.specs.TokenMatches.{tokens_match_each}
 use Rattle.glob_syntax.specs.TokensMatch.{tokens_match, is_prefix_alone}
 use Rattle.byte_nfa.specs.Steps.{state, loop_state, match_state, HasNumber, Accepts, NfaValue, IsReached}
-use Rattle.byte_nfa.specs.Building.{Agrees, Pushes}
+use Rattle.byte_nfa.specs.Building.{Agrees, Pushes, Grows}
 use Rattle.bit_sets.specs.declared.byte_set.ByteSet.{ByteSet}
 use Rattle.byte_nfa.specs.Live.{MatchesAfter}
-use Rattle.glob_strategy.specs.inner.TokenStates.{IsSetOf, is_any_byte}
-use Rattle.glob_strategy.specs.inner.Building.{Grows, Builds, BuildsWhole}
+use Rattle.byte_nfa.specs.Leading.{is_any_byte}
+use Rattle.bit_sets.specs.Bytes.{IsSetOf}
+use Rattle.glob_strategy.specs.inner.Building.{Builds, BuildsWhole}
 use Rattle.bit_sets.specs.Texts.{AllBytes}
 use Rattle.bit_sets.proofs.lemmas.Texts.{all_bytes}
 use Rattle.byte_nfa.proofs.lemmas.After.{both_bytes}
 use Rattle.glob_path.specs.Below.{folder_start}
 use Rattle.glob_strategy.specs.IndexedTokens.{IndexedTokens, indexed, Matches, SomeMatches, SomeMeanAfter, IsFor}
-use Rattle.glob_syntax.proofs.lemmas.Booleans.{or_first}
-use Rattle.glob_strategy.proofs.lemmas.Building.{agrees_old, agrees_higher}
+use Rattle.bit_sets.proofs.lemmas.Booleans.{or_first}
+use Rattle.byte_nfa.proofs.lemmas.Growing.{agrees_old, agrees_higher}
 use Rattle.glob_syntax.proofs.lemmas.TokenLists.{alone_is}
 use Rattle.glob_strategy.proofs.lemmas.TokenStates.{tokens_accept, everything_accepts}
 

@@ -3,10 +3,11 @@ use Rattle.std.proofs.Common.{◌≡◌, ℕ, Bool, true, false, true≢false, �
 use Rattle.std.specs.Prelude.{◌==◌, if◌then◌else◌}
 use Rattle.std.specs.Char.{to_ascii_lowercase}
 use Rattle.glob_syntax.specs.declared.options.Options.{Options}
-use Rattle.glob_syntax.specs.TokenMatches.{is_empty, is_one_byte, compared}
+use Rattle.glob_syntax.specs.TokenMatches.{compared}
+use Rattle.bit_sets.specs.Texts.{is_empty, is_one_byte}
 use Rattle.glob_strategy.specs.inner.TokenStates.{spells, is_letter}
-use Rattle.glob_syntax.proofs.lemmas.Booleans.{and_none, and_first, and_second, and_both, same_truth}
-use Rattle.glob_syntax.proofs.lemmas.Cuts.{both, cut_of, some_cut-append}
+use Rattle.bit_sets.proofs.lemmas.Booleans.{and_none, and_first, and_second, and_both, same_truth}
+use Rattle.bit_sets.proofs.lemmas.Cuts.{both, cut_of, some_cut-append}
 
 -- what is compared of one byte
 folded : Options → ℕ → ℕ

@@ -11,13 +11,14 @@ use Rattle.std.proofs.lemmas.List.{append-nil, append_assoc}
 use Rattle.glob_syntax.specs.declared.options.Options.{Options}
 use Rattle.glob_syntax.specs.Token.{Token, Literal, Any, ZeroOrMore, RecursivePrefix, Class, Tokens, end, and_then}
 use Rattle.glob_syntax.specs.ClassBytes.{class_has}
-use Rattle.glob_syntax.specs.TokenMatches.{is_empty, is_one_byte, is_wild, is_wild_character, compared, tokens_match_each, slash}
+use Rattle.glob_syntax.specs.TokenMatches.{is_wild, is_wild_character, compared, tokens_match_each, slash}
+use Rattle.bit_sets.specs.Texts.{is_empty, is_one_byte}
 use Rattle.glob_syntax.specs.Characters.{is_character}
 use Rattle.glob_syntax.specs.TokensMatch.{is_prefix, is_prefix_alone, tokens_match}
 use Rattle.glob_path.specs.PathParts.{is_separator, with_first, last_position, last_component, component_extension}
-use Rattle.glob_syntax.proofs.lemmas.Booleans.{and_both, and_first, and_second, and_none, or_either, same_truth}
+use Rattle.bit_sets.proofs.lemmas.Booleans.{and_both, and_first, and_second, and_none, or_either, same_truth}
 use Rattle.glob_syntax.proofs.lemmas.Characters.{characters_are_scalars}
-use Rattle.glob_syntax.proofs.lemmas.Cuts.{empty_is}
+use Rattle.bit_sets.proofs.lemmas.Cuts.{empty_is}
 use Rattle.glob_syntax.proofs.lemmas.TokenMatches.{one_byte}
 use Rattle.glob_syntax.proofs.lemmas.TokenLists.{prefix_is}
 use Rattle.glob_syntax.proofs.lemmas.MatchesByParts.{TokenMatches, AllMatch, equal_bytes, prefix_matches, then_matches}

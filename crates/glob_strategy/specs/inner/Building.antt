@@ -2,27 +2,17 @@
 use Rattle.std.specs.Prelude.{◌≡◌, ◌↔◌, ℕ, Bool, List, length, IsTrue}
 use Rattle.glob_syntax.specs.declared.options.Options.{Options}
 use Rattle.glob_syntax.specs.Token.{Token, Tokens}
-use Rattle.byte_nfa.specs.Steps.{State, Accepts, NfaValue}
-use Rattle.byte_nfa.specs.Building.{Agrees, Keeps}
+use Rattle.byte_nfa.specs.Steps.{State, Accepts}
+use Rattle.byte_nfa.specs.Building.{Agrees}
 use Rattle.glob_syntax.specs.TokensMatch.{tokens_match}
 use Rattle.bit_sets.specs.Texts.{AllBytes}
-use Rattle.glob_strategy.specs.inner.TokenStates.{IsSpelled, IsToSlash, ReadsEach, IsCharacter, IsBuilt, IsBuiltToken}
-
--- states were added, and nothing else changed
-pub record Grows (old new : NfaValue) : Type 0 where
-  pub keeps : Keeps old.states new.states
-  pub starts : new.starts ≡ old.starts
-  pub index_count : new.index_count ≡ old.index_count
+use Rattle.glob_strategy.specs.inner.TokenStates.{IsSpelled, ReadsEach, IsCharacter, IsBuilt, IsBuiltToken}
 
 -- In each of these, the states that were added lead from s to e, in each list of states that agrees with them.
 
 -- the states of these bytes of a literal
 abbrev pub BuildsText : Options → List ℕ → List State → List State → ℕ → ℕ → Type 0
 BuildsText o bytes old new s e = (a : List State) → Agrees a new (length old) (length new) → IsSpelled o a s bytes e
-
--- states that read nothing, or any bytes that end in `/`
-abbrev pub BuildsToSlash : List State → List State → ℕ → ℕ → Type 0
-BuildsToSlash old new s e = (a : List State) → Agrees a new (length old) (length new) → IsToSlash a s e
 
 -- states that read bytes that pass these tests, in order
 abbrev pub BuildsRow : List (ℕ → Bool) → List State → List State → ℕ → ℕ → Type 0

@@ -7,10 +7,10 @@ use Rattle.glob_syntax.specs.inner.Weight.{token_weight, branches_weight}
 use Rattle.glob_syntax.specs.Blank.{is_blank, is_blank_token, are_blank}
 use Rattle.byte_nfa.specs.Steps.{State, NfaValue}
 use Rattle.bit_sets.specs.Numbers.{AreBelow}
-use Rattle.byte_nfa.specs.Building.{Agrees}
+use Rattle.byte_nfa.specs.Building.{Agrees, Grows}
 use Rattle.byte_nfa.specs.Runs.{size}
 use Rattle.glob_strategy.specs.inner.TokenStates.{IsBuilt, AreBuilt}
-use Rattle.glob_strategy.specs.inner.Building.{Grows, BuildsToken}
+use Rattle.glob_strategy.specs.inner.Building.{BuildsToken}
 use Rattle.glob_strategy.specs.declared.states.Frame as held
 
 -- An open group, or the whole glob. Its current branch: where its tokens so far begin, and whether they are blank. Where the

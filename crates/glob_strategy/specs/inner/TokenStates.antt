@@ -1,5 +1,5 @@
 -- The states of tokens, in an automaton over bytes.
-use Rattle.std.specs.Prelude.{◌≡◌, ℕ, ◌<◌, Bool, true, ◌==◌, ◌⊎◌, List, [], ◌∷◌, IsTrue, IsFalse, encode_utf8}
+use Rattle.std.specs.Prelude.{◌≡◌, ℕ, Bool, ◌==◌, ◌||◌, ◌⊎◌, List, [], ◌∷◌, IsTrue, IsFalse, encode_utf8}
 use Rattle.glob_syntax.specs.declared.options.Options.{Options}
 use Rattle.glob_syntax.specs.Token.{Token, Literal, Any, ZeroOrMore, RecursivePrefix, RecursiveSuffix, RecursiveZeroOrMore, Class, Group, Tokens, end, and_then, Branches, none, branch}
 use Rattle.glob_syntax.specs.ClassBytes.{class_has}
@@ -7,38 +7,20 @@ use Rattle.std.specs.Str.{bytes_eq}
 use Rattle.glob_syntax.specs.TokenMatches.{slash, is_wild, compared}
 use Rattle.glob_syntax.specs.Blank.{is_kept, any_kept}
 use Rattle.glob_syntax.specs.inner.CharacterRows.{wild_rows}
-use Rattle.bit_sets.specs.Bytes.{has_byte}
-use Rattle.byte_nfa.specs.Steps.{State, bytes_state, union_state, loop_state, state}
-use Rattle.bit_sets.specs.declared.byte_set.ByteSet.{ByteSet}
-
--- ---- a state
-
--- the set has the bytes that pass the test
-abbrev pub IsSetOf : (ℕ → Bool) → ByteSet → Type 0
-IsSetOf test w = (c : ℕ) → c < 256 → has_byte w c ≡ test c
-
--- the test that every byte passes
-abbrev pub is_any_byte : ℕ → Bool
-is_any_byte c = true
+use Rattle.bit_sets.specs.Texts.{ends_with, is_empty}
+use Rattle.byte_nfa.specs.Steps.{State, union_state, state}
+use Rattle.byte_nfa.specs.Leading.{is_any_byte, Leads, Reads, Stays}
 
 -- the byte is `/`
 abbrev pub is_slash : ℕ → Bool
 is_slash c = c == slash
-
--- the state s reads a byte that passes the test, and goes on to e
-abbrev pub Bytes : List State → ℕ → (ℕ → Bool) → ℕ → Type 0
-Bytes a s test e = (w : ByteSet) × (state a s ≡ bytes_state w e) × IsSetOf test w
-
--- the state s stays on bytes that pass the test, and goes on to e
-abbrev pub Loop : List State → ℕ → (ℕ → Bool) → ℕ → Type 0
-Loop a s test e = (w : ByteSet) × (state a s ≡ loop_state w (e ∷ [])) × IsSetOf test w
 
 -- ---- whole characters
 
 -- the states from s on read bytes that pass these tests, in order, and lead to e
 abbrev pub ReadsEach : List State → ℕ → List (ℕ → Bool) → ℕ → Type 0
 ReadsEach a s [] e = s ≡ e
-ReadsEach a s (test ∷ tests) e = (t : ℕ) × Bytes a s test t × ReadsEach a t tests e
+ReadsEach a s (test ∷ tests) e = (t : ℕ) × Reads a s test t × ReadsEach a t tests e
 
 -- there are as many states as rows of tests, and the states from each on read what passes its row, and lead to e
 abbrev pub AreRead : List State → List ℕ → List (List (ℕ → Bool)) → ℕ → Type 0
@@ -64,11 +46,11 @@ is_letter o b c = spells o (b ∷ []) (c ∷ [])
 -- the states from s on are the states of these bytes of a literal, and lead to e
 abbrev pub IsSpelled : Options → List State → ℕ → List ℕ → ℕ → Type 0
 IsSpelled o a s [] e = s ≡ e
-IsSpelled o a s (b ∷ bs) e = (t : ℕ) × Bytes a s (is_letter o b) t × IsSpelled o a t bs e
+IsSpelled o a s (b ∷ bs) e = (t : ℕ) × Reads a s (is_letter o b) t × IsSpelled o a t bs e
 
 -- nothing, or any bytes that end in `/`
 abbrev pub IsToSlash : List State → ℕ → ℕ → Type 0
-IsToSlash a s e = (t u : ℕ) × (state a s ≡ union_state (e ∷ t ∷ [])) × Loop a t is_any_byte u × Bytes a u is_slash e
+IsToSlash a s e = Leads a s (λ y. is_empty y || ends_with slash y) e
 
 -- the states from s on are the states of the tokens, and lead to e
 abbrev mutual
@@ -79,12 +61,12 @@ abbrev mutual
   -- the same of one token
   pub IsBuiltToken : Options → List State → ℕ → Token → ℕ → Type 0
   IsBuiltToken o a s (Literal c) e = IsSpelled o a s (encode_utf8 c) e
-  IsBuiltToken o a s Any e = (IsTrue o.whole_character × IsCharacter o a s e) ⊎ (IsFalse o.whole_character × Bytes a s (is_wild o) e)
-  IsBuiltToken o a s ZeroOrMore e = Loop a s (is_wild o) e
+  IsBuiltToken o a s Any e = (IsTrue o.whole_character × IsCharacter o a s e) ⊎ (IsFalse o.whole_character × Reads a s (is_wild o) e)
+  IsBuiltToken o a s ZeroOrMore e = Stays a s (is_wild o) e
   IsBuiltToken o a s RecursivePrefix e = IsToSlash a s e
-  IsBuiltToken o a s RecursiveSuffix e = (t : ℕ) × Bytes a s is_slash t × Loop a t is_any_byte e
-  IsBuiltToken o a s RecursiveZeroOrMore e = (t : ℕ) × Bytes a s is_slash t × IsToSlash a t e
-  IsBuiltToken o a s (Class negated rs) e = Bytes a s (class_has o negated rs) e
+  IsBuiltToken o a s RecursiveSuffix e = (t : ℕ) × Reads a s is_slash t × Stays a t is_any_byte e
+  IsBuiltToken o a s RecursiveZeroOrMore e = (t : ℕ) × Reads a s is_slash t × IsToSlash a t e
+  IsBuiltToken o a s (Class negated rs) e = Reads a s (class_has o negated rs) e
   -- it skips to its kept branches, or to e where none is kept
   IsBuiltToken o a s (Group bs) e = (ss : List ℕ) × (state a s ≡ union_state ss) × ((IsTrue (any_kept o bs) × AreBuilt o a ss bs e) ⊎ (IsFalse (any_kept o bs) × (ss ≡ e ∷ [])))
 

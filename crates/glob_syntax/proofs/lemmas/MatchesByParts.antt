@@ -6,11 +6,12 @@ use Rattle.std.proofs.lemmas.Slice.Eq.{bytes_eq-Decides}
 use Rattle.std.proofs.lemmas.Bool.{eqb-true}
 use Rattle.std.proofs.Math.Logic.{⊎_elim}
 use Rattle.glob_syntax.specs.Token.{Token, RecursivePrefix, RecursiveSuffix, RecursiveZeroOrMore, Tokens, and_then}
-use Rattle.glob_syntax.specs.TokenMatches.{token_matches, tokens_match_each, is_empty, begins_with_slash, ends_with_slash, slash}
+use Rattle.glob_syntax.specs.TokenMatches.{token_matches, tokens_match_each, begins_with_slash, ends_with_slash, slash}
+use Rattle.bit_sets.specs.Texts.{is_empty}
 use Rattle.glob_syntax.specs.declared.options.Options.{Options}
-use Rattle.glob_syntax.proofs.lemmas.Booleans.{and_both, and_first, and_second, or_first, or_second, or_either}
+use Rattle.bit_sets.proofs.lemmas.Booleans.{and_both, and_first, and_second, or_first, or_second, or_either}
 use Rattle.glob_syntax.proofs.lemmas.TokenMatches.{ends_push, ends_at, begins_at}
-use Rattle.glob_syntax.proofs.lemmas.Cuts.{cut_of, some_cut-append, empty_is}
+use Rattle.bit_sets.proofs.lemmas.Cuts.{cut_of, some_cut-append, empty_is}
 
 -- the token matches the bytes
 abbrev pub TokenMatches : Options → Token → List ℕ → Type 0

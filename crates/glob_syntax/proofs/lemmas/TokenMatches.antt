@@ -5,18 +5,15 @@ use Rattle.std.proofs.lemmas.Bool.{eqb-true}
 use Rattle.std.proofs.Math.Logic.{⊎_elim}
 use Rattle.glob_syntax.specs.Token.{Branches, none, branch}
 use Rattle.glob_syntax.specs.Blank.{is_kept, any_kept}
-use Rattle.glob_syntax.specs.TokenMatches.{some_branch_matches, tokens_match_each, is_one_byte, begins_with_slash, ends_with_slash, slash}
+use Rattle.glob_syntax.specs.TokenMatches.{some_branch_matches, tokens_match_each, begins_with_slash, ends_with_slash, slash}
+use Rattle.bit_sets.specs.Texts.{is_one_byte}
 use Rattle.glob_syntax.specs.declared.options.Options.{Options}
-use Rattle.glob_syntax.proofs.lemmas.Booleans.{and_first, or_first, or_second, or_either}
+use Rattle.bit_sets.proofs.lemmas.Booleans.{and_first, or_first, or_second, or_either}
+use Rattle.bit_sets.proofs.lemmas.Cuts.{one_of}
 
 -- one byte, of which the test holds
 abbrev pub OneByte : (ℕ → Bool) → List ℕ → Type 0
 OneByte test b = (c : ℕ) × (b ≡ c ∷ []) × IsTrue (test c)
-
-one_of : (test : ℕ → Bool) (b : List ℕ) → IsTrue (is_one_byte test b) → OneByte test b
-one_of test [] h = absurd (true≢false (sym h))
-one_of test (c ∷ []) h = (c, refl, h)
-one_of test (c ∷ d ∷ rest) h = absurd (true≢false (sym h))
 
 -- one byte, as a test and as an equation
 pub one_byte : (test : ℕ → Bool) (b : List ℕ) → OneByte test b ↔ IsTrue (is_one_byte test b)

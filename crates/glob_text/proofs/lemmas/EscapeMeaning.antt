@@ -10,15 +10,16 @@ use Rattle.std.proofs.lemmas.Slice.Eq.{bytes_eq-Decides}
 use Rattle.std.proofs.lemmas.Str.{chars-encodes, encodes-chars, scalars-chars}
 use Rattle.glob_syntax.specs.declared.options.Options.{Options}
 use Rattle.glob_syntax.specs.ClassBytes.{ranges_have, class_has}
-use Rattle.glob_syntax.specs.TokenMatches.{is_empty, is_one_byte, token_matches, tokens_match_each, compared}
+use Rattle.glob_syntax.specs.TokenMatches.{token_matches, tokens_match_each, compared}
+use Rattle.bit_sets.specs.Texts.{is_empty, is_one_byte}
 use Rattle.glob_syntax.specs.Token.{Literal}
 use Rattle.glob_syntax.specs.Token as token
 use Rattle.glob_syntax.specs.Reading.{reading}
 use Rattle.glob_text.specs.GlobMatches.{default_glob, default_options, glob_matches}
 use Rattle.glob_syntax.specs.TokensMatch.{is_prefix, is_prefix_alone}
 use Rattle.glob_text.specs.Escape.{is_special, escaped_chars, escaped, has_no_backslash, plain_options, MeansOnly}
-use Rattle.glob_syntax.proofs.lemmas.Booleans.{and_both, and_first, and_second, and_none}
-use Rattle.glob_syntax.proofs.lemmas.Cuts.{cut_of, some_cut-append, empty_is}
+use Rattle.bit_sets.proofs.lemmas.Booleans.{and_both, and_first, and_second, and_none}
+use Rattle.bit_sets.proofs.lemmas.Cuts.{cut_of, some_cut-append, empty_is}
 use Rattle.glob_text.proofs.lemmas.Globs.{means_is}
 use Rattle.glob_text.proofs.lemmas.EscapeReading.{by_special, NoEscape, token_as, token_for, tokens_for, escaped_reads}
 

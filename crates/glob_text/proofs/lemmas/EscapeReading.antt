@@ -14,7 +14,7 @@ use Rattle.glob_syntax.specs.Token.{Token, Literal, Tokens, end, before, branch,
 use Rattle.glob_syntax.specs.Token as token
 use Rattle.glob_syntax.specs.Reading.{in_level, levels, is_whole_run, whole, reading, whole_or_parse_error}
 use Rattle.glob_text.specs.Escape.{is_special, escaped_chars}
-use Rattle.glob_syntax.proofs.lemmas.Booleans.{or_either, and_first, and_second}
+use Rattle.bit_sets.proofs.lemmas.Booleans.{or_either, and_first, and_second}
 
 -- ---- one character in brackets
 

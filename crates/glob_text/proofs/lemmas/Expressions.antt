@@ -8,7 +8,8 @@ use Rattle.std.proofs.Math.Logic.{⊎_elim}
 use Rattle.glob_syntax.specs.Token.{Token, Literal, Any, ZeroOrMore, RecursivePrefix, RecursiveSuffix, RecursiveZeroOrMore, Class, Group, Tokens, end, and_then, Branches, none, branch}
 use Rattle.glob_syntax.specs.Blank.{is_kept, any_kept}
 use Rattle.glob_syntax.specs.ClassBytes.{ranges_have, class_has}
-use Rattle.glob_syntax.specs.TokenMatches.{some_branch_matches, tokens_match_each, compared, is_wild, is_wild_character, is_one_byte, is_empty, slash}
+use Rattle.glob_syntax.specs.TokenMatches.{some_branch_matches, tokens_match_each, compared, is_wild, is_wild_character, slash}
+use Rattle.bit_sets.specs.Texts.{is_one_byte, is_empty}
 use Rattle.glob_syntax.specs.Characters.{is_between}
 use Rattle.glob_syntax.specs.TokensMatch.{tokens_match, is_prefix_alone}
 use Rattle.glob_syntax.specs.inner.CharacterRows.{passes, continues, is_ascii_wild}
@@ -17,7 +18,7 @@ use Rattle.glob_text.specs.SmallRegex.{Entry, single, span, Atom, any_byte, byte
 use Rattle.glob_text.specs.RegexText.{byte_text, bytes_text, ranges_text, class_text, others_text, group_text, with_text, ascii_text, longer_texts, token_text, tokens_text, kept_texts, body_text, regex_text}
 use Rattle.glob_text.specs.RegexDenotes.{HasExpression}
 use Rattle.glob_syntax.specs.declared.options.Options.{Options}
-use Rattle.glob_syntax.proofs.lemmas.Booleans.{and_both, and_first, and_second, or_first, or_second, or_either}
+use Rattle.bit_sets.proofs.lemmas.Booleans.{and_both, and_first, and_second, or_first, or_second, or_either}
 use Rattle.glob_syntax.specs.inner.WellFormed.{AreScalars, IsWellFormed, AreWellFormed, AllWellFormed}
 use Rattle.glob_syntax.proofs.lemmas.TokenMatches.{some_any, OneByte, one_byte}
 use Rattle.glob_syntax.proofs.lemmas.MatchesByParts.{TokenMatches, AllMatch, Then, empty_same, equal_bytes, prefix_matches, suffix_matches, between_matches, then_matches}

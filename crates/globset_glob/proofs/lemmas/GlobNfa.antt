@@ -16,7 +16,7 @@ use Rattle.glob_syntax.specs.After.{MeanAfter}
 use Rattle.glob_strategy.specs.IndexedTokens.{SomeMeanAfter}
 use Rattle.glob_syntax.specs.TokensMatch.{tokens_match}
 use Rattle.glob_strategy.specs.IndexedTokens.{IndexedTokens, indexed, SomeMatches, IsFor}
-use Rattle.glob_syntax.proofs.lemmas.Booleans.{same_truth}
+use Rattle.bit_sets.proofs.lemmas.Booleans.{same_truth}
 use Rattle.glob_path.specs.Below.{folder_start}
 use Rattle.glob_text.specs.GlobMatches.{GlobValue, tokens_of_glob, glob_matches}
 use Rattle.glob_text.specs.Cost.{cost, max_visits, max_visits_below}

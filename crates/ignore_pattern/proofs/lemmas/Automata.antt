@@ -5,14 +5,15 @@ use Rattle.std.specs.List.{list_all}
 use Rattle.std.proofs.Math.Logic.{⊎_elim}
 use Rattle.bit_sets.specs.Texts.{AllBytes}
 use Rattle.byte_nfa.specs.Steps.{State, match_state, union_state, HasNumber, Accepts, NfaValue}
-use Rattle.byte_nfa.specs.Building.{Agrees, Pushes}
+use Rattle.byte_nfa.specs.Building.{Agrees, Pushes, Grows}
 use Rattle.ignore_pattern.specs.Elements.{Folders, element_matches, elements_match}
 use Rattle.ignore_pattern.specs.Patterns.{Pattern, last_component, pattern_matches}
 use Rattle.ignore_pattern.specs.Automata.{matches_at, MatchesAbove, SomeAbove, above_index, IsAutomatonOf}
 use Rattle.ignore_pattern.specs.inner.Views.{is_inside}
-use Rattle.ignore_pattern.specs.inner.States.{Grows, Builds, HasBelow, BuildsPattern, TellsAbove, IsFor}
-use Rattle.ignore_pattern.proofs.lemmas.Cuts.{both}
-use Rattle.ignore_pattern.proofs.lemmas.Building.{agrees_old, agrees_higher, builds_then}
+use Rattle.ignore_pattern.specs.inner.States.{HasBelow, BuildsPattern, TellsAbove, IsFor}
+use Rattle.byte_nfa.specs.Leading.{Builds}
+use Rattle.bit_sets.proofs.lemmas.Cuts.{both}
+use Rattle.byte_nfa.proofs.lemmas.Growing.{agrees_old, agrees_higher, builds_then}
 use Rattle.ignore_pattern.proofs.lemmas.Below.{accepted_or_below}
 use Rattle.ignore_pattern.proofs.lemmas.LastComponents.{last_matches}
 

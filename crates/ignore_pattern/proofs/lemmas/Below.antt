@@ -1,36 +1,30 @@
 -- What is below the folders that a pattern matches.
 use Rattle.std.proofs.Common.{◌≡◌, ℕ, inl, inr, ◌⊎◌, Bool, ◌&&◌, List, [], ◌∷◌, ◌++◌, length, IsTrue, refl, ap, sym, ◌∙◌, subst, arith}
-use Rattle.std.specs.Prelude.{◌<◌, ◌↔◌, Result, IfOk}
+use Rattle.std.specs.Prelude.{◌<◌, ◌↔◌, ◌==◌, Result, IfOk}
 use Rattle.std.specs.List.{list_all}
 use Rattle.std.specs.declared.alloc.AllocError.{AllocError}
 use Rattle.std.proofs.lemmas.Bool.{eqb-true}
 use Rattle.std.proofs.lemmas.List.{append-nil}
 use Rattle.std.proofs.lemmas.Result.{IfOk-weaker}
 use Rattle.std.proofs.Math.Logic.{⊎_elim}
-use Rattle.bit_sets.specs.Texts.{AllBytes}
+use Rattle.bit_sets.specs.Texts.{AllBytes, is_one_byte}
 use Rattle.bit_sets.specs.declared.byte_set.ByteSet.{ByteSet}
 use Rattle.byte_nfa.specs.Steps.{State, state, bytes_state, loop_state, match_state, union_state, Accepts, ends, by_skip, NfaValue}
-use Rattle.byte_nfa.specs.Building.{Agrees, Pushes}
-use Rattle.ignore_pattern.specs.Elements.{is_one_byte}
+use Rattle.byte_nfa.specs.Building.{Agrees, Pushes, Grows}
 use Rattle.ignore_pattern.specs.Automata.{above_index}
-use Rattle.ignore_pattern.specs.inner.States.{IsSetOf, Leads, Grows, IsBelow, BuildsBelow, HasBelow}
-use Rattle.ignore_pattern.proofs.lemmas.Booleans.{and_first}
-use Rattle.ignore_pattern.proofs.lemmas.Cuts.{both, cut_of, one_of, some_cut-append}
-use Rattle.ignore_pattern.proofs.lemmas.Leading.{Reads, Stays, any_all, is_any_byte, is_slash, final_goes, leads_read, leads_stay, leads_then, right_of, skips_goes}
-use Rattle.ignore_pattern.proofs.lemmas.Building.{agrees_old, agrees_higher}
-
--- ---- an end
-
--- bytes that lead to an end of the index j are accepted for j alone
-accepted : (a : List State) (test : List ℕ → Bool) (s e j k : ℕ) (b : List ℕ) → AllBytes b → Leads a s test e → state a e ≡ match_state j → Accepts a k s b ↔ ((j ≡ k) × IsTrue (test b))
-accepted a test s e j k b bytes leads is = (
-  λ h. let (y, z, cut, all, after) = (leads k b bytes).0 h in
-      let (same, nil) = final_goes a k j e z is after in
-      (same, subst (λ l. IsTrue (test l)) (sym (cut ∙ ap (λ l. y ++ l) nil ∙ append-nil y)) all),
-  λ (same, all). (leads k b bytes).1 (b, [], sym (append-nil b), all, subst (λ u. Accepts a u e []) same (ends e is)),
-)
+use Rattle.ignore_pattern.specs.inner.States.{IsBelow, BuildsBelow, HasBelow}
+use Rattle.byte_nfa.specs.Leading.{Leads, Reads, Stays, is_any_byte}
+use Rattle.bit_sets.specs.Bytes.{IsSetOf}
+use Rattle.bit_sets.proofs.lemmas.Booleans.{and_first}
+use Rattle.bit_sets.proofs.lemmas.Cuts.{both, cut_of, one_of, some_cut-append}
+use Rattle.byte_nfa.proofs.lemmas.Leading.{accepted, any_all, final_goes, leads_read, leads_stay, leads_then, skips_goes}
+use Rattle.bit_sets.proofs.lemmas.Texts.{right_of}
+use Rattle.byte_nfa.proofs.lemmas.Growing.{agrees_old, agrees_higher}
 
 -- ---- `/` and whatever follows
+
+abbrev is_slash : ℕ → Bool
+is_slash c = c == 47
 
 slash_first : (w : List ℕ) → IsTrue (both (is_one_byte is_slash) (list_all is_any_byte) w) ↔ ((rest : List ℕ) × (w ≡ 47 ∷ rest))
 slash_first w = (
@@ -38,7 +32,7 @@ slash_first w = (
       let (c, single, has) = one_of is_slash x (and_first (is_one_byte is_slash x) (list_all is_any_byte z) pq) in
       (z, cut ∙ ap (λ l. l ++ z) (single ∙ ap (λ u. u ∷ []) (eqb-true c 47 has))),
   λ (rest, is). subst (λ l. IsTrue (both (is_one_byte is_slash) (list_all is_any_byte) l)) (sym is)
-      (some_cut-append (λ front back. is_one_byte is_slash front && list_all is_any_byte back) (47 ∷ []) rest (any_all [] rest)),
+      (some_cut-append (λ front back. is_one_byte is_slash front && list_all is_any_byte back) (47 ∷ []) rest (any_all rest)),
 )
 
 below_is : (a : List State) (b t e f : ℕ) → Reads a b is_slash t → Stays a t is_any_byte e → state a e ≡ match_state f → IsBelow a b f

@@ -5,22 +5,14 @@ use Rattle.std.proofs.Math.Logic.{⊎_elim}
 use Rattle.std.proofs.lemmas.List.{append-nil}
 use Rattle.bit_sets.specs.Texts.{AllBytes}
 use Rattle.byte_nfa.specs.Steps.{State, state, match_state, HasNumber, Accepts, ends, NfaValue}
-use Rattle.byte_nfa.specs.Building.{Agrees, Pushes}
+use Rattle.byte_nfa.specs.Building.{Agrees, Pushes, Grows}
 use Rattle.ignore_pattern.specs.Patterns.{Pattern, pattern_matches}
 use Rattle.ignore_pattern.specs.Compared.{IndexedPattern, indexed, MatchesFor, SomeMatchFor, Compares}
-use Rattle.ignore_pattern.specs.inner.States.{Leads, Grows, Builds, BuildsAlone}
+use Rattle.ignore_pattern.specs.inner.States.{BuildsAlone}
+use Rattle.byte_nfa.specs.Leading.{Leads, Builds}
 use Rattle.ignore_pattern.proofs.lemmas.Automata.{in_push}
-use Rattle.ignore_pattern.proofs.lemmas.Building.{agrees_old, agrees_higher}
-use Rattle.ignore_pattern.proofs.lemmas.Leading.{final_goes}
-
--- bytes that lead to an end of the index j are accepted for j alone
-accepted : (a : List State) (test : List ℕ → Bool) (s e j k : ℕ) (b : List ℕ) → AllBytes b → Leads a s test e → state a e ≡ match_state j → Accepts a k s b ↔ ((j ≡ k) × IsTrue (test b))
-accepted a test s e j k b bytes leads is = (
-  λ h. let (y, z, cut, all, after) = (leads k b bytes).0 h in
-      let (same, nil) = final_goes a k j e z is after in
-      (same, subst (λ l. IsTrue (test l)) (sym (cut ∙ ap (λ l. y ++ l) nil ∙ append-nil y)) all),
-  λ (same, all). (leads k b bytes).1 (b, [], sym (append-nil b), all, subst (λ u. Accepts a u e []) same (ends e is)),
-)
+use Rattle.byte_nfa.proofs.lemmas.Growing.{agrees_old, agrees_higher}
+use Rattle.byte_nfa.proofs.lemmas.Leading.{accepted}
 
 -- the states that lead to an end alone
 pub alone_built : (ignore_case : Bool) (p : Pattern) (j : ℕ) (old mid new : NfaValue) (s e : ℕ) → Pushes old mid e (match_state j) → Grows mid new

@@ -1,7 +1,8 @@
 -- Lists by their last element.
 use Rattle.std.proofs.Common.{◌≡◌, ℕ, ◌-◌, ◌≤◌, suc, true, false, List, [], ◌∷◌, length, get_or, take, refl, sym, ◌∙◌, ap, arith}
 use Rattle.std.proofs.lemmas.Bool.{eq-eqb, ne_eqb}
-use Rattle.ignore_pattern.specs.Ends.{ends_with, without_last}
+use Rattle.ignore_pattern.specs.Ends.{without_last}
+use Rattle.bit_sets.specs.Texts.{ends_with}
 
 -- the place of the last element, one further on
 next_place : (n : ℕ) → suc (suc n) - 1 ≡ suc (suc n - 1)

@@ -13,8 +13,8 @@ use Rattle.ignore_pattern.specs.Elements.{Element, Literal, Escaped, Any, Star, 
 use Rattle.ignore_pattern.specs.Patterns.{has_slash}
 use Rattle.ignore_pattern.specs.declared.place.Place.TheVariants.{Start, Elsewhere}
 use Rattle.ignore_pattern.specs.inner.Views.{is_inside, are_inside}
-use Rattle.ignore_pattern.proofs.lemmas.Booleans.{and_both, and_first, and_second}
-use Rattle.ignore_pattern.proofs.lemmas.Cuts.{cut_of, empty_is, one_of}
+use Rattle.bit_sets.proofs.lemmas.Booleans.{and_both, and_first, and_second}
+use Rattle.bit_sets.proofs.lemmas.Cuts.{cut_of, empty_is, one_of}
 
 none_first : (x y : Bool) → (x || y) ≡ false → x ≡ false
 none_first true y e = absurd (true≢false e)

@@ -2,13 +2,13 @@
 use Rattle.std.proofs.Common.{◌≡◌, ℕ, Bool, true, false, true≢false, ◌&&◌, ◌||◌, List, [], ◌∷◌, ◌++◌, IsTrue, refl, sym, ◌∙◌, ap, subst}
 use Rattle.std.specs.Prelude.{◌↔◌, ◌==◌}
 use Rattle.std.specs.List.{list_all}
-use Rattle.ignore_pattern.specs.Ends.{ends_with}
+use Rattle.bit_sets.specs.Texts.{ends_with}
 use Rattle.ignore_pattern.specs.Elements.{Element, Folders, element_matches, elements_match}
 use Rattle.ignore_pattern.specs.Patterns.{has_slash, last_component}
 use Rattle.ignore_pattern.specs.inner.Views.{is_inside}
-use Rattle.ignore_pattern.proofs.lemmas.Booleans.{and_both, and_first, and_second, or_first, or_second}
+use Rattle.bit_sets.proofs.lemmas.Booleans.{and_both, and_first, and_second, or_first, or_second}
 use Rattle.std.proofs.lemmas.Bool.{eq-eqb, eqb-true}
-use Rattle.ignore_pattern.proofs.lemmas.Cuts.{both, cut_of, some_cut-append}
+use Rattle.bit_sets.proofs.lemmas.Cuts.{both, cut_of, some_cut-append}
 use Rattle.ignore_pattern.proofs.lemmas.Inside.{match_inside}
 
 no_slash : (z : List ℕ) → has_slash z ≡ false → last_component z ≡ z

@@ -1,30 +1,10 @@
 -- The states of elements and patterns, in an automaton over bytes.
-use Rattle.std.specs.Prelude.{◌≡◌, ℕ, ◌<◌, ◌⊎◌, ◌↔◌, Bool, List, ◌∷◌, ◌++◌, length, IsTrue}
-use Rattle.bit_sets.specs.Bytes.{has_byte}
+use Rattle.std.specs.Prelude.{◌≡◌, ℕ, ◌<◌, ◌⊎◌, ◌↔◌, Bool, List, ◌∷◌, length, IsTrue}
 use Rattle.bit_sets.specs.Texts.{AllBytes}
-use Rattle.bit_sets.specs.declared.byte_set.ByteSet.{ByteSet}
 use Rattle.byte_nfa.specs.Steps.{State, HasNumber, Accepts, NfaValue}
-use Rattle.byte_nfa.specs.Building.{Agrees, Keeps}
+use Rattle.byte_nfa.specs.Building.{Agrees}
 use Rattle.ignore_pattern.specs.Patterns.{Pattern, pattern_matches}
 use Rattle.ignore_pattern.specs.Automata.{matches_at, MatchesAbove, SomeAbove, above_index}
-
--- the set has the bytes that pass the test
-abbrev pub IsSetOf : (ℕ → Bool) → ByteSet → Type 0
-IsSetOf test w = (c : ℕ) → c < 256 → has_byte w c ≡ test c
-
--- from the state s, bytes that pass the test lead to the state e
-abbrev pub Leads : List State → ℕ → (List ℕ → Bool) → ℕ → Type 0
-Leads a s test e = (k : ℕ) (w : List ℕ) → AllBytes w → Accepts a k s w ↔ ((y z : List ℕ) × (w ≡ y ++ z) × IsTrue (test y) × Accepts a k e z)
-
--- states were added, and nothing else changed
-pub record Grows (old new : NfaValue) : Type 0 where
-  pub keeps : Keeps old.states new.states
-  pub starts : new.starts ≡ old.starts
-  pub index_count : new.index_count ≡ old.index_count
-
--- the states that were added lead from s to e by bytes that pass the test, in each list of states that agrees with them
-abbrev pub Builds : (List ℕ → Bool) → List State → List State → ℕ → ℕ → Type 0
-Builds test old new s e = (a : List State) → Agrees a new (length old) (length new) → Leads a s test e
 
 -- from the state b, `/` and whatever follows are accepted for the index f, and nothing else is
 abbrev pub IsBelow : List State → ℕ → ℕ → Type 0

@@ -1,6 +1,7 @@
 use Rattle.std.proofs.Common.{arith, sym, subst}
-use Rattle.glob_strategy.specs.inner.Building.{Grows}
-use Rattle.glob_strategy.proofs.lemmas.Building.{grows_push, grows_then, character_built}
+use Rattle.byte_nfa.specs.Building.{Grows}
+use Rattle.glob_strategy.proofs.lemmas.Building.{character_built}
+use Rattle.byte_nfa.proofs.lemmas.Growing.{grows_push, grows_then}
 use Rattle.glob_strategy.proofs.characters.add_character.Goals as goal
 
 pub returns-clause-builds : goal.returns-clause-builds

@@ -1,7 +1,8 @@
 use Rattle.std.proofs.Common.{◌∷◌, [], arith, sym, subst}
 use Rattle.glob_syntax.specs.inner.CharacterRows.{continues}
-use Rattle.glob_strategy.specs.inner.Building.{Grows}
-use Rattle.glob_strategy.proofs.lemmas.Building.{grows_none, grows_push, grows_then, row_one, row_more, row_within}
+use Rattle.byte_nfa.specs.Building.{Grows}
+use Rattle.glob_strategy.proofs.lemmas.Building.{row_one, row_more, row_within}
+use Rattle.byte_nfa.proofs.lemmas.Growing.{grows_none, grows_push, grows_then}
 use Rattle.glob_strategy.proofs.characters.add_last_bytes.Goals as goal
 
 pub returns-in_err-one-clause-grows : goal.returns-in_err-one-clause-grows

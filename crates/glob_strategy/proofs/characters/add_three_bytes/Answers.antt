@@ -1,8 +1,9 @@
 use Rattle.std.proofs.Common.{rules, ◌∷◌, [], arith, sym, subst}
 use Rattle.glob_syntax.specs.Characters.{is_between}
 use Rattle.glob_syntax.specs.inner.CharacterRows.{begins_three}
-use Rattle.glob_strategy.specs.inner.Building.{Grows}
-use Rattle.glob_strategy.proofs.lemmas.Building.{grows_none, grows_push, grows_then, row_one, row_within}
+use Rattle.byte_nfa.specs.Building.{Grows}
+use Rattle.glob_strategy.proofs.lemmas.Building.{row_one, row_within}
+use Rattle.byte_nfa.proofs.lemmas.Growing.{grows_none, grows_push, grows_then}
 use Rattle.glob_strategy.proofs.characters.add_three_bytes.Goals as goal
 
 pub returns-in_err-middle-clause-grows : goal.returns-in_err-middle-clause-grows

@@ -6,11 +6,10 @@ use Rattle.glob_syntax.specs.Views.{flat_of, flats}
 use Rattle.glob_syntax.proofs.lemmas.FlatTokens.{levels_more, open_around, depth, sole}
 use Rattle.byte_nfa.specs.Steps.{union_state}
 use Rattle.bit_sets.specs.Numbers.{AreBelow}
-use Rattle.byte_nfa.specs.Building.{Pushes}
+use Rattle.byte_nfa.specs.Building.{Pushes, Grows}
 use Rattle.byte_nfa.specs.Runs.{size}
 use Rattle.glob_strategy.specs.inner.Frames.{Frame, frame_of, frames_of, ended, targets_of, Stands}
-use Rattle.glob_strategy.specs.inner.Building.{Grows}
-use Rattle.glob_strategy.proofs.lemmas.Building.{grows_none, grows_then}
+use Rattle.byte_nfa.proofs.lemmas.Growing.{grows_none, grows_then}
 use Rattle.glob_strategy.proofs.lemmas.Frames.{frames_push, frames_length, below_targets, within_ended, stands_flat, not_blank, stands_close, stands_comma, stands_group, stands_whole, weight_whole}
 use Rattle.glob_strategy.proofs.states.add_sequence.Goals as goal
 use Rattle.glob_strategy.proofs.states.add_sequence.Goals.{in-Close+in_ok-push-in-Close, in-Comma+in_ok-frame-in-Comma, in-Open+in_ok-group-in-Open+in_ok-targets-in-Open+in_ok-start-in-Open+in-Some, in_default+in_ok-start-in_default}

@@ -1,7 +1,8 @@
 use Rattle.std.proofs.Common.{◌≡◌, ◌+◌, ◌-◌, ◌<◌, ◌∷◌, length, get_or, drop, arith}
 use Rattle.std.proofs.lemmas.List.{drop_more}
 use Rattle.byte_nfa.specs.Steps.{bytes_state}
-use Rattle.glob_strategy.proofs.lemmas.Building.{grows_then, grows_push, text_more}
+use Rattle.glob_strategy.proofs.lemmas.Building.{text_more}
+use Rattle.byte_nfa.proofs.lemmas.Growing.{grows_then, grows_push}
 use Rattle.glob_strategy.proofs.states.add_text.Goals as goal
 
 pub loop-i-preserved : goal.loop-i-preserved

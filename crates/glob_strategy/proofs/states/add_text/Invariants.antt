@@ -1,6 +1,7 @@
 use Rattle.std.proofs.Common.{◌≡◌, ◌+◌, ◌-◌, ◌<◌, length, drop}
 use Rattle.byte_nfa.specs.Runs.{size}
-use Rattle.glob_strategy.specs.inner.Building.{Grows, BuildsText}
+use Rattle.glob_strategy.specs.inner.Building.{BuildsText}
+use Rattle.byte_nfa.specs.Building.{Grows}
 use Rattle.glob_strategy.proofs.states.add_text.Given as goal
 
 abbrev pub invariant-loop-i : goal.invariant-loop-i

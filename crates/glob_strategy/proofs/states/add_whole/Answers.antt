@@ -2,7 +2,7 @@ use Rattle.std.proofs.Common.{◌≡◌, true, sym, ◌∙◌, arith}
 use Rattle.glob_syntax.specs.Views.{tokens_of}
 use Rattle.glob_syntax.specs.TokensMatch.{is_prefix_alone}
 use Rattle.byte_nfa.specs.Steps.{match_state}
-use Rattle.glob_strategy.proofs.lemmas.Building.{grows_then, grows_push}
+use Rattle.byte_nfa.proofs.lemmas.Growing.{grows_then, grows_push}
 use Rattle.glob_strategy.proofs.lemmas.IndexedTokens.{whole_built, everything_built, alone_weight}
 use Rattle.glob_strategy.proofs.states.add_whole.Goals as goal
 

@@ -1,6 +1,7 @@
 use Rattle.std.proofs.lemmas.Result.{IfOk-weaker}
 use Rattle.ignore_pattern.specs.Patterns.{pattern_matches}
-use Rattle.ignore_pattern.specs.inner.States.{Builds, BuildsPattern}
+use Rattle.ignore_pattern.specs.inner.States.{BuildsPattern}
+use Rattle.byte_nfa.specs.Leading.{Builds}
 use Rattle.ignore_pattern.proofs.lemmas.Automata.{pattern_built}
 use Rattle.ignore_pattern.proofs.automaton.push_states.Goals as goal
 

@@ -1,6 +1,7 @@
 use Rattle.std.proofs.lemmas.Result.{IfOk-weaker}
 use Rattle.ignore_pattern.specs.Patterns.{pattern_matches}
-use Rattle.ignore_pattern.specs.inner.States.{Builds, BuildsAlone}
+use Rattle.ignore_pattern.specs.inner.States.{BuildsAlone}
+use Rattle.byte_nfa.specs.Leading.{Builds}
 use Rattle.ignore_pattern.proofs.lemmas.Compared.{alone_built}
 use Rattle.ignore_pattern.proofs.compared.push_alone.Goals as goal
 

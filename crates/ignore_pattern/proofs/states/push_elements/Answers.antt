@@ -1,7 +1,8 @@
 use Rattle.std.proofs.Common.{◌≡◌, ◌+◌, ◌-◌, ◌<◌, [], ◌∷◌, ◌∙◌, length, drop, ap, sym, arith}
 use Rattle.std.proofs.lemmas.List.{drop_more, drop_all}
 use Rattle.ignore_pattern.specs.inner.Views.{element_of, elements_of}
-use Rattle.ignore_pattern.proofs.lemmas.Building.{grows_none, grows_then, elements_none, elements_more}
+use Rattle.ignore_pattern.proofs.lemmas.Building.{elements_none, elements_more}
+use Rattle.byte_nfa.proofs.lemmas.Growing.{grows_none, grows_then}
 use Rattle.ignore_pattern.proofs.states.push_elements.Goals as goal
 
 pub loop-i-init : goal.loop-i-init

@@ -1,7 +1,8 @@
 use Rattle.std.proofs.Common.{◌-◌, ◌<◌, length, drop}
 use Rattle.byte_nfa.specs.Runs.{size}
 use Rattle.ignore_pattern.specs.Elements.{elements_match}
-use Rattle.ignore_pattern.specs.inner.States.{Grows, Builds}
+use Rattle.byte_nfa.specs.Building.{Grows}
+use Rattle.byte_nfa.specs.Leading.{Builds}
 use Rattle.ignore_pattern.specs.inner.Views.{elements_of}
 use Rattle.ignore_pattern.proofs.states.push_elements.Given as goal
 

@@ -1,12 +1,18 @@
--- Lists cut in two.
+-- Lists of bytes cut in two, and those of a single byte.
 use Rattle.std.proofs.Common.{◌≡◌, ℕ, Bool, true≢false, ◌&&◌, List, [], ◌∷◌, ◌++◌, IsTrue, refl, ap, sym}
 use Rattle.std.proofs.Math.Logic.{⊎_elim}
-use Rattle.glob_syntax.specs.TokenMatches.{some_cut, is_empty}
-use Rattle.glob_syntax.proofs.lemmas.Booleans.{or_first, or_second, or_either}
+use Rattle.std.proofs.lemmas.Bool.{eqb-true, eq-eqb}
+use Rattle.bit_sets.specs.Texts.{ends_with, is_empty, is_one_byte, some_cut}
+use Rattle.bit_sets.proofs.lemmas.Booleans.{or_first, or_second, or_either}
 
 pub empty_is : (y : List ℕ) → IsTrue (is_empty y) → y ≡ []
 empty_is [] h = refl
 empty_is (c ∷ cs) h = absurd (true≢false (sym h))
+
+pub one_of : (test : ℕ → Bool) (b : List ℕ) → IsTrue (is_one_byte test b) → (c : ℕ) × (b ≡ c ∷ []) × IsTrue (test c)
+one_of test [] h = absurd (true≢false (sym h))
+one_of test (c ∷ []) h = (c, refl, h)
+one_of test (c ∷ d ∷ ds) h = absurd (true≢false (sym h))
 
 -- where some cut passes, there is one
 pub cut_of : (test : List ℕ → List ℕ → Bool) (b : List ℕ) → IsTrue (some_cut test b) → (x y : List ℕ) × (b ≡ x ++ y) × IsTrue (test x y)
@@ -26,3 +32,15 @@ some_cut-append test (c ∷ cs) y h =
 -- a part that passes P, and then one that passes Q
 abbrev pub both : (List ℕ → Bool) → (List ℕ → Bool) → List ℕ → Bool
 both P Q y = some_cut (λ front back. P front && Q back) y
+
+-- ---- the last byte
+
+pub ends_push : (c : ℕ) (x : List ℕ) → IsTrue (ends_with c (x ++ c ∷ []))
+ends_push c [] = eq-eqb c c refl
+ends_push c (d ∷ []) = eq-eqb c c refl
+ends_push c (d ∷ e ∷ es) = ends_push c (e ∷ es)
+
+pub ends_at : (c : ℕ) (b : List ℕ) → IsTrue (ends_with c b) → (x : List ℕ) × (b ≡ x ++ c ∷ [])
+ends_at c [] h = absurd (true≢false (sym h))
+ends_at c (d ∷ []) h = ([], ap (λ e. e ∷ []) (sym (eqb-true c d h)))
+ends_at c (d ∷ e ∷ es) h = let (x, is) = ends_at c (e ∷ es) h in (d ∷ x, ap (λ l. d ∷ l) is)

@@ -1,58 +1,27 @@
--- Bytes that lead from a state to another, by the states between them.
-use Rattle.std.proofs.Common.{◌≡◌, ℕ, inl, inr, Bool, true, false, true≢false, ◌&&◌, List, [], ◌∷◌, ◌++◌, IsTrue, refl, ap, sym, ◌∙◌, subst}
+-- What the states of an automaton go on to, and the bytes that lead from one to another.
+use Rattle.std.proofs.Common.{◌≡◌, ℕ, inl, inr, Bool, true, ◌&&◌, ◌||◌, List, [], ◌∷◌, ◌++◌, IsTrue, refl, ap, sym, ◌∙◌, subst}
 use Rattle.std.specs.Prelude.{◌↔◌, ◌==◌}
 use Rattle.std.specs.List.{list_all}
-use Rattle.std.proofs.lemmas.Bool.{eqb-true}
-use Rattle.std.proofs.lemmas.List.{append_assoc}
+use Rattle.std.proofs.lemmas.Bool.{eqb-true, eq-eqb}
+use Rattle.std.proofs.lemmas.List.{append_assoc, append-nil}
 use Rattle.std.proofs.Math.Logic.{⊎_elim}
-use Rattle.bit_sets.specs.Bytes.{has_byte}
-use Rattle.bit_sets.specs.Texts.{AllBytes}
+use Rattle.bit_sets.specs.Bytes.{has_byte, IsSetOf}
+use Rattle.bit_sets.specs.Texts.{AllBytes, ends_with, is_empty, is_one_byte}
 use Rattle.bit_sets.specs.declared.byte_set.ByteSet.{ByteSet}
+use Rattle.bit_sets.proofs.lemmas.Booleans.{and_both, and_first, and_second, or_second, or_either}
+use Rattle.bit_sets.proofs.lemmas.Cuts.{both, cut_of, some_cut-append, empty_is, one_of, ends_push, ends_at}
+use Rattle.bit_sets.proofs.lemmas.Texts.{left_of, right_of}
 use Rattle.byte_nfa.specs.Steps.{State, bytes_state, union_state, loop_state, match_state, state, HasNumber, Accepts, ends, by_byte, by_skip, by_out, by_stay}
-use Rattle.ignore_pattern.specs.Ends.{ends_with}
-use Rattle.ignore_pattern.specs.Elements.{Folders, element_matches, is_empty, is_one_byte}
-use Rattle.ignore_pattern.specs.inner.States.{IsSetOf, Leads}
-use Rattle.ignore_pattern.proofs.lemmas.Booleans.{and_both, and_first, and_second, or_second, or_either}
-use Rattle.ignore_pattern.proofs.lemmas.Cuts.{both, cut_of, some_cut-append, empty_is, one_of}
-
--- the state s reads a byte that passes the test, and goes on to e
-abbrev pub Reads : List State → ℕ → (ℕ → Bool) → ℕ → Type 0
-Reads a s test e = (w : ByteSet) × (state a s ≡ bytes_state w e) × IsSetOf test w
-
--- the state s stays on bytes that pass the test, and goes on to e
-abbrev pub Stays : List State → ℕ → (ℕ → Bool) → ℕ → Type 0
-Stays a s test e = (w : ByteSet) × (state a s ≡ loop_state w (e ∷ [])) × IsSetOf test w
-
-abbrev pub is_any_byte : ℕ → Bool
-is_any_byte c = true
-
-abbrev pub is_slash : ℕ → Bool
-is_slash c = c == 47
-
--- nothing, or any bytes that end with `/`
-abbrev pub GoesToSlash : List State → ℕ → ℕ → Type 0
-GoesToSlash a s e = (t u : ℕ) × (state a s ≡ union_state (e ∷ t ∷ [])) × Stays a t is_any_byte u × Reads a u is_slash e
-
--- ---- bytes
-
-bytes_right : (x y : List ℕ) → AllBytes (x ++ y) → AllBytes y
-bytes_right [] y h = h
-bytes_right (c ∷ cs) y h = bytes_right cs y h.1
-
-bytes_left : (x y : List ℕ) → AllBytes (x ++ y) → AllBytes x
-bytes_left [] y h = tt
-bytes_left (c ∷ cs) y h = (h.0, bytes_left cs y h.1)
-
-pub right_of : (w x y : List ℕ) → w ≡ x ++ y → AllBytes w → AllBytes y
-right_of w x y e h = bytes_right x y (subst AllBytes e h)
-
-left_of : (w x y : List ℕ) → w ≡ x ++ y → AllBytes w → AllBytes x
-left_of w x y e h = bytes_left x y (subst AllBytes e h)
+use Rattle.byte_nfa.specs.Leading.{is_any_byte, Reads, Stays, Leads}
 
 -- a set of bytes and its test agree on bytes
 all_same : (test : ℕ → Bool) (w : ByteSet) (y : List ℕ) → IsSetOf test w → AllBytes y → list_all (has_byte w) y ≡ list_all test y
 all_same test w [] is bytes = refl
 all_same test w (c ∷ cs) is bytes = (λ i. is c bytes.0 i && all_same test w cs is bytes.1 i)
+
+pub any_all : (y : List ℕ) → list_all is_any_byte y ≡ true
+any_all [] = refl
+any_all (c ∷ cs) = any_all cs
 
 module _ (a : List State) where
   -- ---- what a state of each kind goes on to
@@ -113,6 +82,12 @@ module _ (a : List State) where
           let parts' : w ≡ y ++ (u ++ z) = cut ∙ ap (λ l. l ++ z) parts ∙ append_assoc y u z in
           (f k w bytes).1 (y, u ++ z, parts', and_first (P y) (Q u) pq, (g k (u ++ z) (right_of w y (u ++ z) parts' bytes)).1 (u, z, refl, and_second (P y) (Q u) pq, after))
 
+  pub leads_same : (s e : ℕ) (P Q : List ℕ → Bool) → ((y : List ℕ) → AllBytes y → P y ≡ Q y) → Leads a s P e → Leads a s Q e
+  leads_same s e P Q same f k w bytes = (
+    λ h. let (y, z, cut, p, rest) = (f k w bytes).0 h in (y, z, cut, sym (same y (left_of w y z cut bytes)) ∙ p, rest),
+    λ (y, z, cut, q, rest). (f k w bytes).1 (y, z, cut, same y (left_of w y z cut bytes) ∙ q, rest),
+  )
+
   pub leads_iff : (s e : ℕ) (P Q : List ℕ → Bool) → ((y : List ℕ) → IsTrue (P y) ↔ IsTrue (Q y)) → Leads a s P e → Leads a s Q e
   leads_iff s e P Q same f k w bytes = (
     λ h. let (y, z, cut, p, rest) = (f k w bytes).0 h in (y, z, cut, (same y).0 p, rest),
@@ -138,49 +113,47 @@ module _ (a : List State) where
     λ (u, z, cut, all, rest). subst (Accepts a k s) (sym cut) (stay_back k s e w u z is (all_same test w u set (left_of y u z cut bytes) ∙ all) rest),
   )
 
-  -- ---- `/`
+  -- ---- bytes that end with a certain one
 
-  pub any_all : (y : List ℕ) → list_all is_any_byte y ≡ true
-  any_all [] = refl
-  any_all (c ∷ cs) = any_all cs
-
-  ends_push : (x : List ℕ) → IsTrue (ends_with 47 (x ++ 47 ∷ []))
-  ends_push [] = refl
-  ends_push (c ∷ []) = refl
-  ends_push (c ∷ d ∷ ds) = ends_push (d ∷ ds)
-
-  ends_at : (b : List ℕ) → IsTrue (ends_with 47 b) → (x : List ℕ) × (b ≡ x ++ 47 ∷ [])
-  ends_at [] h = absurd (true≢false (sym h))
-  ends_at (c ∷ []) h = ([], ap (λ d. d ∷ []) (sym (eqb-true 47 c h)))
-  ends_at (c ∷ d ∷ ds) h = let (x, is) = ends_at (d ∷ ds) h in (c ∷ x, ap (λ l. c ∷ l) is)
-
-  ends_slash : (y : List ℕ) → IsTrue (both (list_all is_any_byte) (is_one_byte is_slash) y) ↔ IsTrue (ends_with 47 y)
-  ends_slash y = (
-    λ some. let (x, z, cut, pq) = cut_of (λ front back. list_all is_any_byte front && is_one_byte is_slash back) y some in
-        let (c, single, has) = one_of is_slash z (and_second (list_all is_any_byte x) (is_one_byte is_slash z) pq) in
-        subst (λ l. IsTrue (ends_with 47 l)) (sym (cut ∙ ap (λ l. x ++ l) (single ∙ ap (λ u. u ∷ []) (eqb-true c 47 has)))) (ends_push x),
-    λ h. let (x, is) = ends_at y h in
-        subst (λ l. IsTrue (both (list_all is_any_byte) (is_one_byte is_slash) l)) (sym is)
-        (some_cut-append (λ front back. list_all is_any_byte front && is_one_byte is_slash back) x (47 ∷ []) (and_both (list_all is_any_byte x) true (any_all x) refl)),
+  ends_test : (c : ℕ) (y : List ℕ) → IsTrue (both (list_all is_any_byte) (is_one_byte (λ d. d == c)) y) ↔ IsTrue (ends_with c y)
+  ends_test c y = (
+    λ some. let (x, z, cut, pq) = cut_of (λ front back. list_all is_any_byte front && is_one_byte (λ d. d == c) back) y some in
+        let (d, single, has) = one_of (λ d. d == c) z (and_second (list_all is_any_byte x) (is_one_byte (λ d. d == c) z) pq) in
+        subst (λ l. IsTrue (ends_with c l)) (sym (cut ∙ ap (λ l. x ++ l) (single ∙ ap (λ u. u ∷ []) (eqb-true d c has)))) (ends_push c x),
+    λ h. let (x, is) = ends_at c y h in
+        subst (λ l. IsTrue (both (list_all is_any_byte) (is_one_byte (λ d. d == c)) l)) (sym is)
+        (some_cut-append (λ front back. list_all is_any_byte front && is_one_byte (λ d. d == c) back) x (c ∷ []) (and_both (list_all is_any_byte x) (c == c) (any_all x) (eq-eqb c c refl))),
   )
 
-  pub leads_to_slash : (s e : ℕ) → GoesToSlash a s e → Leads a s (element_matches false Folders) e
-  leads_to_slash s e (t, u, first, second, third) k w bytes = (there, back)
+  -- nothing, or bytes that end with c
+  pub leads_up_to : (s t u e c : ℕ) → state a s ≡ union_state (e ∷ t ∷ []) → Stays a t is_any_byte u → Reads a u (λ d. d == c) e → Leads a s (λ y. is_empty y || ends_with c y) e
+  leads_up_to s t u e c first second third k w bytes = (there, back)
     where
-      tail : Leads a t (ends_with 47) e
-      tail = leads_iff t e (both (list_all is_any_byte) (is_one_byte is_slash)) (ends_with 47) ends_slash
-          (leads_then t u e (list_all is_any_byte) (is_one_byte is_slash) (leads_stay t u is_any_byte second) (leads_read u e is_slash third))
+      tail : Leads a t (ends_with c) e
+      tail = leads_iff t e (both (list_all is_any_byte) (is_one_byte (λ d. d == c))) (ends_with c) (ends_test c)
+          (leads_then t u e (list_all is_any_byte) (is_one_byte (λ d. d == c)) (leads_stay t u is_any_byte second) (leads_read u e (λ d. d == c) third))
 
-      there : Accepts a k s w → (y z : List ℕ) × (w ≡ y ++ z) × IsTrue (element_matches false Folders y) × Accepts a k e z
+      there : Accepts a k s w → (y z : List ℕ) × (w ≡ y ++ z) × IsTrue (is_empty y || ends_with c y) × Accepts a k e z
       there h = let (v, m, rest) = skips_goes k s (e ∷ t ∷ []) w first h in
-          ⊎_elim {C = (y z : List ℕ) × (w ≡ y ++ z) × IsTrue (element_matches false Folders y) × Accepts a k e z}
+          ⊎_elim {C = (y z : List ℕ) × (w ≡ y ++ z) × IsTrue (is_empty y || ends_with c y) × Accepts a k e z}
           (λ is. ([], w, refl, refl, subst (λ x. Accepts a k x w) is rest))
-          (λ other. ⊎_elim {C = (y z : List ℕ) × (w ≡ y ++ z) × IsTrue (element_matches false Folders y) × Accepts a k e z}
-          (λ is. let (y, z, cut, slashed, after) = (tail k w bytes).0 (subst (λ x. Accepts a k x w) is rest) in (y, z, cut, or_second (is_empty y) (ends_with 47 y) slashed, after))
+          (λ other. ⊎_elim {C = (y z : List ℕ) × (w ≡ y ++ z) × IsTrue (is_empty y || ends_with c y) × Accepts a k e z}
+          (λ is. let (y, z, cut, ended, after) = (tail k w bytes).0 (subst (λ x. Accepts a k x w) is rest) in (y, z, cut, or_second (is_empty y) (ends_with c y) ended, after))
           (λ no. absurd no) other) m
 
-      back : ((y z : List ℕ) × (w ≡ y ++ z) × IsTrue (element_matches false Folders y) × Accepts a k e z) → Accepts a k s w
+      back : ((y z : List ℕ) × (w ≡ y ++ z) × IsTrue (is_empty y || ends_with c y) × Accepts a k e z) → Accepts a k s w
       back (y, z, cut, h, after) = ⊎_elim {C = Accepts a k s w}
           (λ nil. by_skip s e w (e ∷ t ∷ []) first (inl refl) (subst (Accepts a k e) (sym (cut ∙ ap (λ l. l ++ z) (empty_is y nil))) after))
-          (λ slashed. by_skip s t w (e ∷ t ∷ []) first (inr (inl refl)) ((tail k w bytes).1 (y, z, cut, slashed, after)))
-          (or_either (is_empty y) (ends_with 47 y) h)
+          (λ ended. by_skip s t w (e ∷ t ∷ []) first (inr (inl refl)) ((tail k w bytes).1 (y, z, cut, ended, after)))
+          (or_either (is_empty y) (ends_with c y) h)
+
+  -- ---- an end
+
+  -- bytes that lead to an end of the index j are accepted for j alone
+  pub accepted : (test : List ℕ → Bool) (s e j k : ℕ) (b : List ℕ) → AllBytes b → Leads a s test e → state a e ≡ match_state j → Accepts a k s b ↔ ((j ≡ k) × IsTrue (test b))
+  accepted test s e j k b bytes leads is = (
+    λ h. let (y, z, cut, all, after) = (leads k b bytes).0 h in
+        let (same, nil) = final_goes k j e z is after in
+        (same, subst (λ l. IsTrue (test l)) (sym (cut ∙ ap (λ l. y ++ l) nil ∙ append-nil y)) all),
+    λ (same, all). (leads k b bytes).1 (b, [], sym (append-nil b), all, subst (λ u. Accepts a u e []) same (ends e is)),
+  )

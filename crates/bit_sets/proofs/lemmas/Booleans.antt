@@ -1,7 +1,7 @@
 -- Facts about truth values.
-use Rattle.std.proofs.Common.{◌≡◌, ◌⊎◌, inl, inr, Bool, true, false, true≢false, ◌&&◌, ◌||◌, IsTrue, refl, sym}
+use Rattle.std.proofs.Common.{◌≡◌, Bool, true, false, true≢false, ◌&&◌, IsTrue, refl, sym}
 use Rattle.std.specs.Prelude.{◌↔◌}
-pub use Rattle.std.proofs.lemmas.Bool.{and_from as and_both, or_left as or_first, or_right as or_second}
+pub use Rattle.std.proofs.lemmas.Bool.{and_from as and_both, or_left as or_first, or_right as or_second, or_cases as or_either}
 
 pub and_first : (x y : Bool) → (x && y) ≡ true → x ≡ true
 and_first true y e = refl
@@ -10,10 +10,6 @@ and_first false y e = e
 pub and_second : (x y : Bool) → (x && y) ≡ true → y ≡ true
 and_second true y e = e
 and_second false y e = absurd (true≢false (sym e))
-
-pub or_either : (x y : Bool) → (x || y) ≡ true → (x ≡ true) ⊎ (y ≡ true)
-or_either true y e = inl refl
-or_either false y e = inr e
 
 pub and_none : (x : Bool) → (x && false) ≡ false
 and_none true = refl
