@@ -8,5 +8,4 @@ pub mod Ends
 pub mod Inside
 pub mod LastComponents
 pub mod Lines
-pub mod Lists
 pub mod Reading

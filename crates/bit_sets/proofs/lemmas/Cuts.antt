@@ -1,5 +1,6 @@
 -- Lists of bytes cut in two, and those of a single byte.
-use Rattle.std.proofs.Common.{◌≡◌, ℕ, Bool, true≢false, ◌&&◌, List, [], ◌∷◌, ◌++◌, IsTrue, refl, ap, sym}
+use Rattle.std.proofs.Common.{◌≡◌, ℕ, ◌-◌, ◌≤◌, Bool, true≢false, ◌&&◌, List, [], ◌∷◌, ◌++◌, length, get_or, take, drop, IsTrue, refl, ap, sym, arith}
+use Rattle.std.proofs.lemmas.List.{take_all}
 use Rattle.std.proofs.Math.Logic.{⊎_elim}
 use Rattle.std.proofs.lemmas.Bool.{eqb-true, eq-eqb}
 use Rattle.bit_sets.specs.Texts.{ends_with, is_empty, is_one_byte, some_cut}
@@ -32,6 +33,12 @@ some_cut-append test (c ∷ cs) y h =
 -- a part that passes P, and then one that passes Q
 abbrev pub both : (List ℕ → Bool) → (List ℕ → Bool) → List ℕ → Bool
 both P Q y = some_cut (λ front back. P front && Q back) y
+
+-- ---- the first item, as the pattern `[x, rest @ ..]` has it
+
+pub head_cell : {A : Type 0} (xs : List A) (d : A) → 1 ≤ length xs → xs ≡ get_or xs 0 d ∷ take (length xs - 1) (drop 1 xs)
+head_cell [] d h = absurd (omega arith)
+head_cell (y ∷ ys) d h = ap (λ l. y ∷ l) (sym (take_all (length (y ∷ ys) - 1) ys (omega arith)))
 
 -- ---- the last byte
 

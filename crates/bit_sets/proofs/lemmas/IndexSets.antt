@@ -7,7 +7,7 @@ use Rattle.std.proofs.lemmas.List.Elements.{Contains-append_left, Contains-appen
 use Rattle.bit_sets.specs.Indexes.{has_index, index_capacity, HasAlso}
 use Rattle.bit_sets.specs.declared.index_set.IndexSet.{IndexSet}
 
-in_one : (x k : ℕ) → Contains (x ∷ []) k → x ≡ k
+pub in_one : (x k : ℕ) → Contains (x ∷ []) k → x ≡ k
 in_one x k (zero, lt, e) = e
 in_one x k (suc j, lt, e) = absurd (omega (arith, lt))
 

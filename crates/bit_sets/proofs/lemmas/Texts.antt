@@ -14,6 +14,10 @@ pub front_bytes : (p q : List ℕ) → AllBytes (p ++ q) → AllBytes p
 front_bytes [] q h = tt
 front_bytes (c ∷ p) q h = (h.0, front_bytes p q h.1)
 
+pub both_bytes : (p q : List ℕ) → AllBytes p → AllBytes q → AllBytes (p ++ q)
+both_bytes [] q h g = g
+both_bytes (c ∷ p) q h g = (h.0, both_bytes p q h.1 g)
+
 -- of a text that is cut in two
 pub right_of : (w x y : List ℕ) → w ≡ x ++ y → AllBytes w → AllBytes y
 right_of w x y e h = rest_bytes x y (subst AllBytes e h)

@@ -7,6 +7,7 @@ use Rattle.bit_sets.specs.Numbers.{has_number, AreBelow}
 use Rattle.bit_sets.specs.StateSets.{has_state}
 use Rattle.bit_sets.specs.Texts.{AllBytes}
 use Rattle.bit_sets.specs.declared.state_set.StateSet.{StateSet}
+use Rattle.bit_sets.proofs.lemmas.Texts.{both_bytes, front_bytes}
 use Rattle.byte_nfa.proofs.lemmas.EarlyMatches.{decided_small}
 use Rattle.byte_nfa.proofs.lemmas.Live.{after_byte}
 use Rattle.byte_nfa.proofs.lemmas.Pass.{iff_trans, or_first, or_second}
@@ -15,10 +16,6 @@ use Rattle.byte_nfa.specs.Live.{AreLive, MatchesAfter}
 use Rattle.byte_nfa.specs.Runs.{size, AcceptsIn}
 use Rattle.byte_nfa.specs.Steps.{NfaValue, state, match_state, Accepts, IsReached, ends, by_byte, by_skip, by_out, by_stay}
 use Rattle.byte_nfa.proofs.lemmas.Finding.{found_is, at_dead, at_quiet, some_last, some_same}
-
-pub both_bytes : (y z : List ℕ) → AllBytes y → AllBytes z → AllBytes (y ++ z)
-both_bytes [] z h g = g
-both_bytes (c ∷ y) z h g = (h.0, both_bytes y z h.1 g)
 
 -- an item of a list
 pub has_number_at : (list : List ℕ) (n : ℕ) → n < length list → IsTrue (has_number (slice_index list n) list)
@@ -62,10 +59,6 @@ index_below old m made k s y (by_skip s' t z ts e at rest) = index_below old m m
 index_below old m made k s y (by_out s' t z w ts e at rest) = index_below old m made k t z rest
 index_below old m made k s y (by_stay s' c z w ts e has rest) = index_below old m made k s z rest
 
-first_bytes : (p q : List ℕ) → AllBytes (p ++ q) → AllBytes p
-first_bytes [] q all = tt
-first_bytes (c ∷ p) q all = (all.0, first_bytes p q all.1)
-
 -- some bytes, by the same facts
 pub some_after : {A B : List ℕ → ℕ → Type 0} → ((y : List ℕ) (k : ℕ) → A y k ↔ B y k) → ((k : ℕ) × (y : List ℕ) × AllBytes y × A y k) ↔ ((k : ℕ) × (y : List ℕ) × AllBytes y × B y k)
 some_after same = (λ (k, y, all, a). (k, y, all, (same y k).0 a), λ (k, y, all, b). (k, y, all, (same y k).1 b))
@@ -84,7 +77,7 @@ live_finds n P below = (there, back)
 
     back : (k : ℕ) × (y : List ℕ) × AllBytes y × FindsBy n P y k → (k : ℕ) × (y : List ℕ) × AllBytes y × P y k
     back (k, y, all, (lt, inl a)) = (k, y, all, a)
-    back (k, y, all, (lt, inr (p, q, e, a))) = (n + k, p, first_bytes p q (subst AllBytes e all), a)
+    back (k, y, all, (lt, inr (p, q, e, a))) = (n + k, p, front_bytes p q (subst AllBytes e all), a)
 
 -- what the automaton with early matches finds after a text, the other automaton matches
 pub after_is : (old m : NfaValue) → EndsAtEarlyMatches old m → (text : List ℕ) (byte : ℕ) → AllBytes text → byte < 256

@@ -1,6 +1,7 @@
 -- States that are added to an automaton, one after another.
-use Rattle.std.proofs.Common.{◌≡◌, ℕ, ◌<◌, ◌≤◌, Bool, ◌==◌, ◌||◌, List, [], ◌∷◌, length, refl, ◌∙◌, arith}
-use Rattle.std.specs.Prelude.{Result, IfOk}
+use Rattle.std.proofs.Common.{◌≡◌, ℕ, ◌⊎◌, inl, inr, ◌<◌, ◌≤◌, Bool, ◌==◌, ◌||◌, List, [], ◌∷◌, ◌++◌, length, refl, ◌∙◌, arith}
+use Rattle.std.specs.Prelude.{◌↔◌, Result, IfOk}
+use Rattle.std.proofs.Math.Logic.{⊎_elim}
 use Rattle.std.specs.declared.alloc.AllocError.{AllocError}
 use Rattle.std.proofs.lemmas.Result.{IfOk-weaker}
 use Rattle.bit_sets.specs.Bytes.{IsSetOf}
@@ -8,7 +9,7 @@ use Rattle.bit_sets.specs.Texts.{ends_with, is_empty, is_one_byte}
 use Rattle.bit_sets.specs.declared.byte_set.ByteSet.{ByteSet}
 use Rattle.bit_sets.proofs.lemmas.Cuts.{both}
 use Rattle.std.specs.List.{list_all}
-use Rattle.byte_nfa.specs.Steps.{State, bytes_state, union_state, loop_state, NfaValue}
+use Rattle.byte_nfa.specs.Steps.{HasNumber, State, bytes_state, union_state, loop_state, NfaValue}
 use Rattle.byte_nfa.specs.Building.{Agrees, Grows, Keeps, Pushes}
 use Rattle.byte_nfa.specs.Leading.{is_any_byte, Builds}
 use Rattle.byte_nfa.proofs.lemmas.Leading.{leads_read, leads_stay, leads_then, leads_up_to}
@@ -40,6 +41,19 @@ agrees_old a old new low keeps agrees = λ s le lt. let more = keeps.0 in agrees
 
 pub agrees_higher : (a new : List State) (low high : ℕ) → low ≤ high → Agrees a new low (length new) → Agrees a new high (length new)
 agrees_higher a new low high h agrees = λ s le lt. agrees s (omega arith) lt
+
+-- ---- one more start
+
+pub in_push : (t s : ℕ) (xs : List ℕ) → HasNumber t (xs ++ s ∷ []) ↔ (HasNumber t xs ⊎ (t ≡ s))
+in_push t s [] = (λ h. ⊎_elim {C = ⊥ ⊎ (t ≡ s)} (λ is. inr is) (λ no. absurd no) h, λ h. ⊎_elim {C = (t ≡ s) ⊎ ⊥} (λ no. absurd no) (λ is. inl is) h)
+in_push t s (x ∷ xs) = (
+  λ h. ⊎_elim {C = ((t ≡ x) ⊎ HasNumber t xs) ⊎ (t ≡ s)}
+      (λ here. inl (inl here))
+      (λ later. ⊎_elim {C = ((t ≡ x) ⊎ HasNumber t xs) ⊎ (t ≡ s)} (λ earlier. inl (inr earlier)) (λ last. inr last) ((in_push t s xs).0 later)) h,
+  λ h. ⊎_elim {C = (t ≡ x) ⊎ HasNumber t (xs ++ s ∷ [])}
+      (λ front. ⊎_elim {C = (t ≡ x) ⊎ HasNumber t (xs ++ s ∷ [])} (λ here. inl here) (λ earlier. inr ((in_push t s xs).1 (inl earlier))) front)
+      (λ last. inr ((in_push t s xs).1 (inr last))) h,
+)
 
 -- ---- bytes
 

@@ -6,6 +6,7 @@ use Rattle.std.specs.List.{flat_map}
 use Rattle.std.specs.Cmp.Lexicographic.{bytes_decides}
 use Rattle.std.proofs.lemmas.List.{reverse-append, reverse-reverse, map-append, length-reverse}
 use Rattle.std.proofs.lemmas.List.Folds.{flat_map-map}
+use Rattle.bit_sets.proofs.lemmas.Booleans.{same_tests}
 use Rattle.glob_path.specs.Entries.{Entry, indexes_under}
 use Rattle.glob_path.specs.declared.trie.Anchor.{Anchor}
 use Rattle.glob_path.specs.declared.trie.Anchor.TheVariants.{Start, End}
@@ -23,11 +24,6 @@ along_prefixes : (f : List ℕ → List ℕ) (p : List ℕ) → along f p ≡ fl
 along_prefixes f [] = sym (append-nil (f []))
 along_prefixes f (b ∷ p) =
     ap (λ l. f [] ++ l) (along_prefixes (λ x. f (b ∷ x)) p ∙ sym (flat_map-map f (λ x. b ∷ x) (prefixes p)))
-
-same_tests : (x y : Bool) → (x ≡ true → y ≡ true) → (y ≡ true → x ≡ true) → x ≡ y
-same_tests true y f g = sym (f refl)
-same_tests false true f g = g refl
-same_tests false false f g = refl
 
 reversed_key : (k w : List ℕ) → bytes_eq (reverse k) w ≡ bytes_eq k (reverse w)
 reversed_key k w =
@@ -136,7 +132,7 @@ one_part End p k = omega (arith, ap (occurrences k) (reversed_suffixes p), occur
 pub found_within : (t : Texts) (p : List ℕ) → length (found t p) ≤ length t.entries
 found_within t p = found_at_most (parts t.anchor p) (one_part t.anchor p) t.entries
 
-found_in_none : (ps : List (List ℕ)) → flat_map (indexes_under []) ps ≡ []
+pub found_in_none : (ps : List (List ℕ)) → flat_map (indexes_under []) ps ≡ []
 found_in_none [] = refl
 found_in_none (p ∷ ps) = found_in_none ps
 

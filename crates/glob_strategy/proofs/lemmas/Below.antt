@@ -4,7 +4,7 @@ use Rattle.std.specs.Prelude.{◌↔◌}
 use Rattle.std.proofs.Math.Logic.{⊎_elim}
 use Rattle.std.proofs.lemmas.List.{append-nil, append_assoc}
 use Rattle.bit_sets.specs.Texts.{AllBytes}
-use Rattle.bit_sets.proofs.lemmas.Texts.{rest_bytes}
+use Rattle.bit_sets.proofs.lemmas.Texts.{rest_bytes, both_bytes, front_bytes}
 use Rattle.glob_syntax.specs.After.{MeanAfter}
 use Rattle.glob_syntax.specs.TokenMatches.{slash}
 use Rattle.glob_syntax.specs.TokensMatch.{tokens_match}
@@ -21,10 +21,6 @@ use Rattle.glob_strategy.specs.Strategies.{StrategyValue, Excluded, Key, Require
 use Rattle.glob_strategy.proofs.lemmas.Components.{Lacks, lacks_back, last_component_at, split, IsExtension, extension_ends, extension_parts}
 use Rattle.glob_strategy.proofs.lemmas.TokenMeaning.{extension_end}
 use Rattle.glob_path.proofs.lemmas.LastPositions.{neither}
-
-append_bytes : (y z : List ℕ) → AllBytes y → AllBytes z → AllBytes (y ++ z)
-append_bytes [] z h g = g
-append_bytes (c ∷ y) z h g = (h.0, append_bytes y z h.1 g)
 
 -- the folder with its `/`, and the rest
 with_slash : (folder rest : List ℕ) → (folder ++ slash ∷ []) ++ rest ≡ path_below folder rest
@@ -72,10 +68,6 @@ overlap (c ∷ x) (d ∷ y) u v cut =
     (λ (z, is). inl (z, (λ i. sym first i ∷ is i)))
     (λ (z, is). inr (z, (λ i. first i ∷ is i)))
     (overlap x y u v others)
-
-front_bytes : (p q : List ℕ) → AllBytes (p ++ q) → AllBytes p
-front_bytes [] q h = tt
-front_bytes (c ∷ p) q h = (h.0, front_bytes p q h.1)
 
 -- what is known of a key, beside what it says of paths
 abbrev pub IsKeyShaped : KeyValue → Type 0
@@ -132,7 +124,7 @@ module _ (o : Options) (ts : Tokens) (folder : List ℕ) (bytes : AllBytes folde
     λ (rest, all, h).
         let path = path_below folder (rest ++ key) in (
           rest ++ key,
-          append_bytes rest key all has,
+          both_bytes rest key all has,
           (tells path).1 (path_below folder rest) (append_assoc folder (slash ∷ rest) key) ∙ subst (λ f. IsTrue (tokens_match o (before_ending ts) f)) (with_slash folder rest) h,
         ),
   )
@@ -140,7 +132,7 @@ module _ (o : Options) (ts : Tokens) (folder : List ℕ) (bytes : AllBytes folde
     λ (rest, all, h).
         let path = path_below folder rest in
         let s = split path in
-        (last_component path, rest_bytes s.front (last_component path) (subst AllBytes s.cut (append_bytes folder (slash ∷ rest) bytes (let small : slash < 256 = omega arith in small, all))), sym (tells path) ∙ h),
+        (last_component path, rest_bytes s.front (last_component path) (subst AllBytes s.cut (both_bytes folder (slash ∷ rest) bytes (let small : slash < 256 = omega arith in small, all))), sym (tells path) ∙ h),
     λ (name, all, h). (name, all, tells (path_below folder name) ∙ ap (tokens_match o (after_prefix ts)) (name_below folder name (shape name h)) ∙ h),
   )
   sound_below Regex has shape tells = path_tells_below o ts folder tells

@@ -1,8 +1,8 @@
 -- States that are added to an automaton.
-use Rattle.std.proofs.Common.{ℕ, ◌≤◌, Bool, List, [], ◌∷◌, ◌++◌, length, refl, sym, ◌∙◌, subst, arith}
+use Rattle.std.proofs.Common.{ℕ, Bool, List, [], ◌∷◌, ◌++◌, length, refl, sym, subst, arith}
 use Rattle.glob_syntax.specs.declared.options.Options.{Options}
 use Rattle.byte_nfa.specs.Steps.{State, bytes_state, union_state, NfaValue}
-use Rattle.byte_nfa.specs.Building.{Agrees, Grows, Keeps, Pushes}
+use Rattle.byte_nfa.specs.Building.{Grows, Keeps, Pushes}
 use Rattle.byte_nfa.proofs.lemmas.Growing.{agrees_old, agrees_higher, grows_none, grows_then, grows_push}
 use Rattle.bit_sets.specs.declared.byte_set.ByteSet.{ByteSet}
 use Rattle.glob_syntax.specs.Characters.{is_between}

@@ -8,12 +8,12 @@ use Rattle.glob_syntax.specs.declared.options.Options.{Options}
 use Rattle.glob_syntax.specs.Token.{Token, Literal, ZeroOrMore, RecursivePrefix, RecursiveSuffix, Tokens, end, and_then}
 use Rattle.glob_syntax.specs.TokenMatches.{slash}
 use Rattle.glob_syntax.specs.TokensMatch.{is_prefix, is_prefix_alone, tokens_match}
-use Rattle.bit_sets.proofs.lemmas.Booleans.{and_first, and_second, or_either}
+use Rattle.bit_sets.proofs.lemmas.Booleans.{and_first, and_second, or_either, iff_trans}
 use Rattle.bit_sets.proofs.lemmas.Cuts.{empty_is}
-use Rattle.glob_syntax.proofs.lemmas.TokenLists.{prefix_is}
+use Rattle.glob_syntax.proofs.lemmas.TokenLists.{prefix_is, alone_is}
 use Rattle.glob_syntax.proofs.lemmas.MatchesByParts.{TokenMatches, AllMatch, suffix_matches, then_matches}
 use Rattle.glob_strategy.specs.TokenTests.{is_star, is_suffix, has_tokens, are_literals, first_and_rest, literals_and_last, literal_text, is_whole_path, is_last_components, is_star_literals, is_end, is_beginning, is_below_folder}
-use Rattle.glob_strategy.proofs.lemmas.TokenMeaning.{iff_trans, literal_is, literals_take, means_taken, more_after, no_prefix, after_component, by_first, star_is, star_matches, star_literals_take}
+use Rattle.glob_strategy.proofs.lemmas.TokenMeaning.{literal_is, literals_take, means_taken, more_after, no_prefix, after_component, by_first, star_is, star_matches, star_literals_take}
 
 -- ---- last components
 
@@ -110,13 +110,8 @@ suffix_is t h = absurd (true≢false (sym h))
 abbrev BeginsWithText : Options → List ℕ → Tokens → Type 0
 BeginsWithText o b ts = IsTrue (tokens_match o ts b) ↔ ((rest : List ℕ) × (literal_text ts ++ rest ≡ b))
 
-prefix_alone_is : (ts : Tokens) → is_prefix_alone ts ≡ true → ts ≡ and_then RecursivePrefix end
-prefix_alone_is end h = absurd (true≢false (sym h))
-prefix_alone_is (and_then t end) h = ap (λ u. and_then u end) (prefix_is t h)
-prefix_alone_is (and_then t (and_then u us)) h = absurd (true≢false (sym h))
-
 prefix_alone_means : (o : Options) (b : List ℕ) (ts : Tokens) → is_prefix_alone ts ≡ true → BeginsWithText o b ts
-prefix_alone_means o b ts h = subst (BeginsWithText o b) (sym (prefix_alone_is ts h)) (λ p. (b, refl), λ p. refl)
+prefix_alone_means o b ts h = subst (BeginsWithText o b) (sym (alone_is ts h)) (λ p. (b, refl), λ p. refl)
 
 literals_star_means : (o : Options) (b : List ℕ) → o.case_insensitive ≡ false → o.literal_separator ≡ false → (ts : Tokens) → literals_and_last is_star ts ≡ true → BeginsWithText o b ts
 literals_star_means o b off all ts h =

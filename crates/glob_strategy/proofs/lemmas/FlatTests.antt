@@ -2,6 +2,7 @@
 use Rattle.std.proofs.Common.{◌≡◌, Bool, true, false, true≢false, not, ◌&&◌, ◌||◌, List, [], ◌∷◌, ◌++◌, refl, ap, sym, ◌∙◌, subst}
 use Rattle.std.specs.Prelude.{if◌then◌else◌, encode_utf8}
 use Rattle.std.proofs.lemmas.List.{map-append}
+use Rattle.std.proofs.Math.Bool.{and-true}
 use Rattle.glob_syntax.specs.declared.options.Options.{Options}
 use Rattle.glob_syntax.specs.declared.token.Token as held
 use Rattle.glob_syntax.specs.Token.{Token, Literal, Group, Tokens, end, and_then, Branches}
@@ -259,13 +260,9 @@ front_and_last test [] t = refl
 front_and_last test (f ∷ front) t =
     more_flat test f front t ∙ ap (λ b. is_simple_that (is_literal_except []) f && b) (front_and_last test front t) ∙ grouped (is_simple_that (is_literal_except []) f) (flat.are_literals front) (is_simple_that test t)
 
-and_all : (a : Bool) → (a && true) ≡ a
-and_all true = refl
-and_all false = refl
-
 pub last_passes : (test : Token → Bool) (ts front : List held.Token) (t : held.Token) → ts ≡ front ++ t ∷ [] → is_simple_that test (flat_of t) ≡ true → flat.are_literals (flats front) ≡ flat.literals_and_last test (flats ts)
 last_passes test ts front t e h =
-    sym (and_all (flat.are_literals (flats front)))
+    sym (and-true (flat.are_literals (flats front)))
     ∙ sym (ap (λ l. flat.literals_and_last test (flats l)) e ∙ ap (flat.literals_and_last test) (map-append flat_of front (t ∷ [])) ∙ front_and_last test (flats front) (flat_of t) ∙ ap (λ b. flat.are_literals (flats front) && b) h)
 
 pub last_fails : (test : Token → Bool) (ts front : List held.Token) (t : held.Token) → ts ≡ front ++ t ∷ [] → is_simple_that test (flat_of t) ≡ false → false ≡ flat.literals_and_last test (flats ts)

@@ -9,17 +9,17 @@ use Rattle.glob_syntax.specs.declared.token.Token.TheVariants as variants
 use Rattle.glob_syntax.specs.Token.{Token, Group, Tokens, Branches, none, branch}
 use Rattle.glob_syntax.specs.Reading.{Levels, in_level, open_level, next_branch, close_level, first_branch}
 use Rattle.glob_syntax.specs.FlatTokens.{all_levels, Flat, simple, opening, comma, closing, level}
-use Rattle.glob_syntax.specs.Views.{flat_of}
 use Rattle.glob_syntax.specs.inner.Weight.{weight, token_weight, branches_weight}
 use Rattle.glob_syntax.proofs.lemmas.FlatTokens.{IsSole}
 use Rattle.glob_syntax.specs.Blank.{is_blank_token, is_kept, any_kept}
+use Rattle.glob_syntax.proofs.lemmas.TokenLists.{IsNotBlank}
 use Rattle.byte_nfa.specs.Steps.{State, union_state, state, NfaValue}
 use Rattle.bit_sets.specs.Numbers.{AreBelow}
 use Rattle.byte_nfa.specs.Building.{Pushes, Grows}
 use Rattle.byte_nfa.specs.Runs.{size}
 use Rattle.glob_strategy.specs.inner.TokenStates.{IsBuilt, IsBuiltToken, AreBuilt}
 use Rattle.glob_strategy.specs.inner.Building.{Builds, BuildsToken}
-use Rattle.glob_strategy.specs.inner.Frames.{Frame, frame_of, frames_of, fresh, led, with_start, ended, targets_of, AreOpen, AreBlank, AreWithin, levels_weight, Stands, flat_weight, BuildsFlat, IsNotBlank}
+use Rattle.glob_strategy.specs.inner.Frames.{Frame, frame_of, frames_of, fresh, led, with_start, ended, targets_of, AreOpen, AreBlank, AreWithin, levels_weight, Stands, flat_weight, BuildsFlat}
 use Rattle.glob_strategy.specs.declared.states.Frame as kept
 use Rattle.bit_sets.proofs.lemmas.Booleans.{or_first}
 use Rattle.byte_nfa.proofs.lemmas.Growing.{agrees_old, agrees_higher, grows_then, grows_push}
@@ -196,18 +196,6 @@ stands_flat o old mid new f fs l (simple t) s e stands is lt count grows builds 
 stands_flat o old mid new f fs l opening s e stands is lt count grows builds = absurd builds
 stands_flat o old mid new f fs l comma s e stands is lt count grows builds = absurd builds
 stands_flat o old mid new f fs l closing s e stands is lt count grows builds = absurd builds
-
-pub not_blank : (t : held.Token) → IsNotBlank (flat_of t)
-not_blank (variants.Literal c) = refl
-not_blank variants.Any = refl
-not_blank variants.ZeroOrMore = refl
-not_blank variants.RecursivePrefix = refl
-not_blank variants.RecursiveSuffix = refl
-not_blank variants.RecursiveZeroOrMore = refl
-not_blank (variants.Class class) = refl
-not_blank variants.Open = tt
-not_blank variants.Comma = tt
-not_blank variants.Close = tt
 
 -- at the end the whole list is one branch, around which nothing is open
 pub stands_whole : (o : Options) (old new : NfaValue) (f : Frame) (fs : List Frame) (l : Levels) (e : ℕ)

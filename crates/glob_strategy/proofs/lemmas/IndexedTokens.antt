@@ -20,7 +20,7 @@ use Rattle.byte_nfa.proofs.lemmas.After.{both_bytes}
 use Rattle.glob_path.specs.Below.{folder_start}
 use Rattle.glob_strategy.specs.IndexedTokens.{IndexedTokens, indexed, Matches, SomeMatches, SomeMeanAfter, IsFor}
 use Rattle.bit_sets.proofs.lemmas.Booleans.{or_first}
-use Rattle.byte_nfa.proofs.lemmas.Growing.{agrees_old, agrees_higher}
+use Rattle.byte_nfa.proofs.lemmas.Growing.{agrees_old, agrees_higher, in_push}
 use Rattle.glob_syntax.proofs.lemmas.TokenLists.{alone_is}
 use Rattle.glob_strategy.proofs.lemmas.TokenStates.{tokens_accept, everything_accepts}
 
@@ -56,17 +56,6 @@ alone_weight o ts h = rw (alone_is ts h) (omega arith)
 
 -- ---- the tokens of one glob more
 
-in_push : (t s : ℕ) (xs : List ℕ) → HasNumber t (xs ++ s ∷ []) ↔ (HasNumber t xs ⊎ (t ≡ s))
-in_push t s [] = (λ h. ⊎_elim {C = ⊥ ⊎ (t ≡ s)} (λ is. inr is) (λ no. absurd no) h, λ h. ⊎_elim {C = (t ≡ s) ⊎ ⊥} (λ no. absurd no) (λ is. inl is) h)
-in_push t s (x ∷ xs) = (
-  λ h. ⊎_elim {C = ((t ≡ x) ⊎ HasNumber t xs) ⊎ (t ≡ s)}
-      (λ here. inl (inl here))
-      (λ later. ⊎_elim {C = ((t ≡ x) ⊎ HasNumber t xs) ⊎ (t ≡ s)} (λ earlier. inl (inr earlier)) (λ last. inr last) ((in_push t s xs).0 later)) h,
-  λ h. ⊎_elim {C = (t ≡ x) ⊎ HasNumber t (xs ++ s ∷ [])}
-      (λ front. ⊎_elim {C = (t ≡ x) ⊎ HasNumber t (xs ++ s ∷ [])} (λ here. inl here) (λ earlier. inr ((in_push t s xs).1 (inl earlier))) front)
-      (λ last. inr ((in_push t s xs).1 (inr last))) h,
-)
-
 pub some_push : (x : IndexedTokens) (xs : List IndexedTokens) (path : List ℕ) (k : ℕ) → SomeMatches (xs ++ x ∷ []) path k ↔ (SomeMatches xs path k ⊎ Matches x path k)
 some_push x [] path k = (λ h. ⊎_elim {C = ⊥ ⊎ Matches x path k} (λ this. inr this) (λ no. absurd no) h, λ h. ⊎_elim {C = Matches x path k ⊎ ⊥} (λ no. absurd no) (λ this. inl this) h)
 some_push x (y ∷ ys) path k = (
@@ -88,10 +77,6 @@ still_for old new xs grows is = λ a agrees path k bytes.
       λ (s, at, h). before.0 (s, subst (HasNumber s) grows.starts at, h),
       λ some. let (s, at, h) = before.1 some in (s, subst (HasNumber s) (sym grows.starts) at, h),
     )
-
-pub on_err : {X E P : Type 0} (r : Result X E) → P → OnErr r P
-on_err (Ok x) p = tt
-on_err (Err e) p = p
 
 pub one_more : (o : Options) (ts : Tokens) (j : ℕ) (old mid new : NfaValue) (s : ℕ) (xs : List IndexedTokens)
     → Grows old mid → BuildsWhole o ts j old.states mid.states s → new.states ≡ mid.states → new.starts ≡ mid.starts ++ s ∷ []

@@ -12,7 +12,7 @@ use Rattle.glob_strategy.specs.declared.strategy.MatchStrategy.TheVariants as he
 use Rattle.glob_strategy.specs.inner.DecidedByKey.{IsDecidedBy}
 use Rattle.glob_strategy.proofs.lemmas.Below.{IsShaped, key_tells_below, path_tells_below}
 use Rattle.glob_strategy.proofs.lemmas.Strategies.{listed_means, shaped}
-use Rattle.glob_strategy.proofs.lemmas.TokenMeaning.{iff_trans}
+use Rattle.bit_sets.proofs.lemmas.Booleans.{iff_trans}
 
 -- such a glob is not excluded
 not_excluded : (o : Options) (ts : Tokens) (key : KeyValue) → Key key ≡ strategy_of_tokens o ts → are_excluded o ts ≡ false

@@ -16,7 +16,7 @@ use Rattle.bit_sets.specs.Texts.{is_empty, is_one_byte}
 use Rattle.glob_syntax.specs.Characters.{is_character}
 use Rattle.glob_syntax.specs.TokensMatch.{is_prefix, is_prefix_alone, tokens_match}
 use Rattle.glob_path.specs.PathParts.{is_separator, with_first, last_position, last_component, component_extension}
-use Rattle.bit_sets.proofs.lemmas.Booleans.{and_both, and_first, and_second, and_none, or_either, same_truth}
+use Rattle.bit_sets.proofs.lemmas.Booleans.{and_both, and_first, and_second, and_none, or_either, same_truth, iff_trans}
 use Rattle.glob_syntax.proofs.lemmas.Characters.{characters_are_scalars}
 use Rattle.bit_sets.proofs.lemmas.Cuts.{empty_is}
 use Rattle.glob_syntax.proofs.lemmas.TokenMatches.{one_byte}
@@ -28,9 +28,6 @@ use Rattle.glob_strategy.specs.Strategies.{matches_no_slash, after_prefix, is_la
 use Rattle.glob_strategy.proofs.lemmas.Excluded.{dot_is}
 use Rattle.glob_path.proofs.lemmas.LastPositions.{neither}
 use Rattle.glob_strategy.proofs.lemmas.Components.{EndsWith, Lacks, lacks_cons, lacks_append, lacks_front, encode_lacks, EndsComponent, last_component_at, split, IsExtension, extension_ends, extension_parts}
-
-pub iff_trans : {A B C : Type 0} → A ↔ B → B ↔ C → A ↔ C
-iff_trans f g = (λ a. g.0 (f.0 a), λ c. f.1 (g.1 c))
 
 -- ---- literals
 

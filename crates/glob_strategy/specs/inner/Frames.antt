@@ -4,7 +4,7 @@ use Rattle.glob_syntax.specs.declared.options.Options.{Options}
 use Rattle.glob_syntax.specs.Token.{Branches, none, branch}
 use Rattle.glob_syntax.specs.FlatTokens.{Flat, simple, opening, comma, closing}
 use Rattle.glob_syntax.specs.inner.Weight.{token_weight, branches_weight}
-use Rattle.glob_syntax.specs.Blank.{is_blank, is_blank_token, are_blank}
+use Rattle.glob_syntax.specs.Blank.{is_blank, are_blank}
 use Rattle.byte_nfa.specs.Steps.{State, NfaValue}
 use Rattle.bit_sets.specs.Numbers.{AreBelow}
 use Rattle.byte_nfa.specs.Building.{Agrees, Grows}
@@ -126,10 +126,3 @@ BuildsFlat o (simple t) old new s e = BuildsToken o t old new s e
 BuildsFlat o opening old new s e = ⊥
 BuildsFlat o comma old new s e = ⊥
 BuildsFlat o closing old new s e = ⊥
-
--- such a token is not blank; of others this says nothing
-abbrev pub IsNotBlank : Flat → Type 0
-IsNotBlank (simple t) = is_blank_token t ≡ false
-IsNotBlank opening = Unit {0}
-IsNotBlank comma = Unit {0}
-IsNotBlank closing = Unit {0}

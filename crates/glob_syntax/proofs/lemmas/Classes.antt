@@ -6,6 +6,8 @@ use Rattle.std.proofs.lemmas.Bool.Decides.{nat_tests, eqb_tells}
 use Rattle.std.specs.List.{slice_get}
 use Rattle.std.proofs.lemmas.Option.{slice_get-get_or}
 use Rattle.std.proofs.lemmas.List.{take_more, take_all, get_or-set_same, get_or-set_other, length-set, get_or-replicate}
+use Rattle.std.proofs.Math.Bool.{or_comm}
+use Rattle.bit_sets.proofs.lemmas.Booleans.{or_assoc}
 use Rattle.glob_syntax.specs.declared.class.Membership.{Membership}
 use Rattle.glob_syntax.specs.declared.class.Membership.TheVariants.{Absent, OtherCase, Present}
 use Rattle.glob_syntax.specs.ClassBytes.{is_one_of, is_from_last, is_spanned, range_has, ranges_have}
@@ -15,24 +17,14 @@ or_none : (p q : Bool) → (p || q) ≡ ((p || false) || q)
 or_none true q = refl
 or_none false q = refl
 
-or_assoc : (p q r : Bool) → (p || (q || r)) ≡ ((p || q) || r)
-or_assoc true q r = refl
-or_assoc false q r = refl
-
-or_swap : (p q : Bool) → (p || q) ≡ (q || p)
-or_swap true true = refl
-or_swap true false = refl
-or_swap false true = refl
-or_swap false false = refl
-
 -- ---- lists of bytes and of ranges, with one more at the end
 
 one_of_push : (byte : ℕ) (bs : List ℕ) (c : ℕ) → is_one_of byte (bs ++ c ∷ []) ≡ (is_one_of byte bs || (byte == c))
-one_of_push byte [] c = or_swap (byte == c) false
+one_of_push byte [] c = or_comm (byte == c) false
 one_of_push byte (b ∷ bs) c = ap (λ t. (byte == b) || t) (one_of_push byte bs c) ∙ or_assoc (byte == b) (is_one_of byte bs) (byte == c)
 
 ranges_push : (byte : ℕ) (rs : List (ℕ × ℕ)) (r : ℕ × ℕ) → ranges_have (rs ++ r ∷ []) byte ≡ (ranges_have rs byte || range_has r byte)
-ranges_push byte [] r = or_swap (range_has r byte) false
+ranges_push byte [] r = or_comm (range_has r byte) false
 ranges_push byte (s ∷ rs) r =
     ap (λ t. range_has s byte || t) (ranges_push byte rs r) ∙ or_assoc (range_has s byte) (ranges_have rs byte) (range_has r byte)
 
@@ -83,7 +75,7 @@ of_three p l u = if p then Present else (if l || u then OtherCase else Absent)
 
 same_three : (p l u : Bool) → of_three (p || false) (l || false) (u || false) ≡ of_three p l u
 unfolding of_three
-same_three p l u = rw (or_swap p false, or_swap l false, or_swap u false) refl
+same_three p l u = rw (or_comm p false, or_comm l false, or_comm u false) refl
 
 other_three : (p l u x y : Bool) → (x || y) ≡ true → with_other_case (of_three p l u) ≡ of_three (p || false) (l || x) (u || y)
 unfolding of_three
@@ -107,7 +99,7 @@ meets : (byte : ℕ) → other_case byte ≢ byte → ((to_ascii_lowercase (othe
 meets byte apart = grind (arith, nat_tests)
 
 or_true : (p : Bool) → (p || true) ≡ true
-or_true p = or_swap p true
+or_true p = or_comm p true
 
 equal_to_itself : (byte : ℕ) → (byte == byte) ≡ true
 equal_to_itself byte = grind (arith, nat_tests)

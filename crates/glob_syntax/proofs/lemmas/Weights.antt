@@ -40,12 +40,12 @@ bytes_are true (c ∷ cs) = omega (arith, length-append (encode_utf8 c) (encode_
 bytes_are false (c ∷ cs) = omega (arith, length-append (encode_utf8 c) (encode_utf8_all cs), bytes_are false cs)
 
 -- a character has a byte
-some_in : (c : ℕ) → 1 ≤ length (encode_utf8 c)
-some_in c = let whole : 1 ≤ length (encode_utf8_all (c ∷ [])) = length-le-encodes (c ∷ []) in omega (arith, length-append (encode_utf8 c) [])
+pub encode_some : (c : ℕ) → 1 ≤ length (encode_utf8 c)
+encode_some c = let whole : 1 ≤ length (encode_utf8_all (c ∷ [])) = length-le-encodes (c ∷ []) in omega (arith, length-append (encode_utf8 c) [])
 
 some_byte : (q : Bool) (c : ℕ) → 1 ≤ counted q c
-some_byte true c = omega (arith, some_in c)
-some_byte false c = some_in c
+some_byte true c = omega (arith, encode_some c)
+some_byte false c = encode_some c
 
 -- each byte is counted
 all_counted : (q : Bool) (c : ℕ) → length (encode_utf8 c) ≤ counted q c
@@ -67,8 +67,8 @@ slash_byte = refl
 
 -- a `?` has no more states than its byte
 any_light : (q : Bool) (c : ℕ) → (if q then 16 else 1) ≤ 4 * counted q c
-any_light true c = omega (arith, some_in c)
-any_light false c = omega (arith, some_in c)
+any_light true c = omega (arith, encode_some c)
+any_light false c = omega (arith, encode_some c)
 
 module _ (o : Options) where
   bytes_drop : (n : ℕ) (cs : List ℕ) → bytes o.whole_character (drop n cs) ≤ bytes o.whole_character cs
@@ -212,7 +212,7 @@ module _ (o : Options) where
   char_cut b c ms = elim b [ true ↦ slash_piece ms | false ↦ (Literal c ∷ [], 0) ]
 
   char_cut_weight : (b : Bool) (c : ℕ) (ms : List Lexeme) → list_weight (char_cut b c ms).0 ≤ 4 * length (encode_utf8 c)
-  char_cut_weight true c ms = omega (arith, some_in c, slash_cut_weight (last_run (drop (pairs ms) ms)) (nat_lt 0 (pairs ms)) (pairs ms))
+  char_cut_weight true c ms = omega (arith, encode_some c, slash_cut_weight (last_run (drop (pairs ms) ms)) (nat_lt 0 (pairs ms)) (pairs ms))
   char_cut_weight false c ms = omega arith
 
   -- a piece weighs no more than its first lexeme

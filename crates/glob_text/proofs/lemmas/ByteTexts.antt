@@ -1,10 +1,9 @@
 -- Bytes and characters: their texts, and when they are equal.
-use Rattle.std.proofs.Common.{◌≡◌, ℕ, ◌/◌, ◌%◌, ◌<◌, ◌≤◌, inl, inr, Bool, true, false, ◌&&◌, List, [], ◌∷◌, ◌++◌, length, map, IsTrue, refl, ap, sym, ◌∙◌, arith}
+use Rattle.std.proofs.Common.{◌≡◌, ℕ, ◌/◌, ◌%◌, ◌<◌, inl, inr, Bool, true, false, ◌&&◌, List, [], ◌∷◌, ◌++◌, map, IsTrue, refl, ap, sym, ◌∙◌, arith}
 use Rattle.std.specs.Prelude.{◌↔◌, ◌==◌, encode_utf8, if◌then◌else◌}
 use Rattle.std.specs.Char.{to_ascii_lowercase, to_ascii_uppercase, IsScalar}
 use Rattle.std.proofs.lemmas.Bool.{ltb-true, ltb-false, lt-ltb, le-ltb, eqb-true, eq-eqb, ne_eqb, cases_lt, cases_eq, cond_both, agree_below_at}
 use Rattle.std.proofs.lemmas.List.{map-append}
-use Rattle.std.proofs.lemmas.Str.{length-encode, len_utf8_bounds}
 use Rattle.std.proofs.Math.Logic.{⊎_elim}
 use lib.Utf8.{encode, scalar_cases}
 use lib.Dec.{ltb}
@@ -57,10 +56,6 @@ encode_below c s =
     (λ n1. cond_both (ltb c 2048) _ _ Below (λ e. (omega (arith, ltb-true c 2048 e), (omega arith, tt)))
     (λ n2. cond_both (ltb c 65536) _ _ Below (λ e. (omega (arith, ltb-true c 65536 e), (omega arith, (omega arith, tt))))
     (λ n3. (omega arith, (omega arith, (omega arith, (omega arith, tt)))))))
-
--- and at least one
-pub encode_some : (c : ℕ) → 1 ≤ length (encode_utf8 c)
-encode_some c = omega (arith, length-encode c, len_utf8_bounds c)
 
 -- ---- `/` is no letter
 

@@ -3,15 +3,13 @@ use Rattle.std.proofs.Common.{◌≡◌, ℕ, ◌+◌, ◌<◌, ◌≤◌, Bool,
 use Rattle.std.specs.Prelude.{◌==◌, nat_le, encode_utf8, codes}
 use Rattle.std.specs.Char.{IsScalar}
 use Rattle.std.proofs.lemmas.List.{append-nil, append_assoc, length-append}
+use Rattle.bit_sets.proofs.lemmas.Booleans.{or_assoc}
 use Rattle.glob_syntax.specs.ClassBytes.{is_one_of, is_from_last, is_spanned, range_has, ranges_have}
 use Rattle.glob_text.specs.SmallRegex.{Entry, single, span, SpellsEntries, entry_has, entries_have}
 use Rattle.glob_text.specs.RegexText.{byte_text, bytes_text, char_text, range_text, ranges_text}
 use Rattle.glob_syntax.specs.inner.WellFormed.{AreScalars}
-use Rattle.glob_text.proofs.lemmas.ByteTexts.{Below, spells_byte, encode_below, encode_some}
-
-or_assoc : (p q r : Bool) → (p || (q || r)) ≡ ((p || q) || r)
-or_assoc true q r = refl
-or_assoc false q r = refl
+use Rattle.glob_text.proofs.lemmas.ByteTexts.{Below, spells_byte, encode_below}
+use Rattle.glob_syntax.proofs.lemmas.Weights.{encode_some}
 
 -- the text is that of at least n entries, which have the bytes of a test
 abbrev pub HasEntries : ℕ → List ℕ → (ℕ → Bool) → Type 0

@@ -8,6 +8,7 @@ use Rattle.std.proofs.lemmas.Bool.{eqb-true}
 use Rattle.std.proofs.lemmas.Bool.Decides.{Decides-eqb}
 use Rattle.std.proofs.lemmas.Slice.Eq.{bytes_eq-Decides}
 use Rattle.std.proofs.lemmas.Str.{chars-encodes, encodes-chars, scalars-chars}
+use Rattle.std.proofs.Math.Bool.{and-true, or-false}
 use Rattle.glob_syntax.specs.declared.options.Options.{Options}
 use Rattle.glob_syntax.specs.ClassBytes.{ranges_have, class_has}
 use Rattle.glob_syntax.specs.TokenMatches.{token_matches, tokens_match_each, compared}
@@ -22,14 +23,6 @@ use Rattle.bit_sets.proofs.lemmas.Booleans.{and_both, and_first, and_second, and
 use Rattle.bit_sets.proofs.lemmas.Cuts.{cut_of, some_cut-append, empty_is}
 use Rattle.glob_text.proofs.lemmas.Globs.{means_is}
 use Rattle.glob_text.proofs.lemmas.EscapeReading.{by_special, NoEscape, token_as, token_for, tokens_for, escaped_reads}
-
-or_none : (x : Bool) → (x || false) ≡ x
-or_none true = refl
-or_none false = refl
-
-and_all : (x : Bool) → (x && true) ≡ x
-and_all true = refl
-and_all false = refl
 
 -- ---- one token
 
@@ -51,11 +44,11 @@ ranges_are : (c : ℕ) (byte : ℕ) → is_special c ≡ true → ranges_have ((
 unfolding encode_utf8
 ranges_are c byte s =
     by_special (λ k. ranges_have ((k, k) ∷ []) byte ≡ (byte == k))
-    (or_none _ ∙ or_none _) (or_none _ ∙ or_none _) (or_none _ ∙ or_none _) (or_none _ ∙ or_none _) (or_none _ ∙ or_none _) (or_none _ ∙ or_none _)
+    (or-false _ ∙ or-false _) (or-false _ ∙ or-false _) (or-false _ ∙ or-false _) (or-false _ ∙ or-false _) (or-false _ ∙ or-false _) (or-false _ ∙ or-false _)
     c s
 
 class_is : (o : Options) (c : ℕ) (byte : ℕ) → o.case_insensitive ≡ false → is_special c ≡ true → class_has o false ((c, c) ∷ []) byte ≡ (byte == c)
-class_is o c byte i s = rw i (or_none _ ∙ ranges_are c byte s)
+class_is o c byte i s = rw i (or-false _ ∙ ranges_are c byte s)
 
 special_matches : (o : Options) (c : ℕ) (b : List ℕ) → o.case_insensitive ≡ false → is_special c ≡ true → IsTrue (token_matches o (token.Class false ((c, c) ∷ [])) b) ↔ (b ≡ encode_utf8 c)
 special_matches o c b i s = rw (one_byte c s) (one_byte_matches c (class_has o false ((c, c) ∷ [])) b (λ byte. class_is o c byte i s))
@@ -113,7 +106,7 @@ means_only o text s utf8 i n e =
 
 no_backslash : (cs : List ℕ) → list_all (λ c. not (c == 92)) cs ≡ true → NoEscape default_options cs
 no_backslash [] h = refl
-no_backslash (c ∷ cs) h = and_both _ _ (ap not (and_all (c == 92)) ∙ and_first _ _ h) (no_backslash cs (and_second _ _ h))
+no_backslash (c ∷ cs) h = and_both _ _ (ap not (and-true (c == 92)) ∙ and_first _ _ h) (no_backslash cs (and_second _ _ h))
 
 nothing_escapes : (cs : List ℕ) → NoEscape plain_options cs
 nothing_escapes [] = refl

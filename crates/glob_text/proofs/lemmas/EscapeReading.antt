@@ -3,7 +3,7 @@ use Rattle.std.proofs.Common.{◌≡◌, ℕ, zero, List, [], ◌∷◌, ◌++�
 use Rattle.std.specs.Prelude.{if◌then◌else◌}
 use Rattle.std.specs.List.{position, list_all}
 use Rattle.std.proofs.Math.Logic.{⊎_elim}
-use Rattle.std.proofs.lemmas.Bool.{eqb-true}
+use Rattle.std.proofs.lemmas.Bool.{eqb-true, not-true}
 use Rattle.std.proofs.lemmas.Iterator.Adapters.{position_from-zero}
 use Rattle.glob_syntax.specs.declared.options.Options.{Options}
 use Rattle.glob_syntax.specs.Ranges.{ranges, bad_range}
@@ -95,15 +95,11 @@ one_kept_as o c cs false e b = ap (λ (p : Lexeme × ℕ). nested zero (p.0 ∷ 
 abbrev pub NoEscape : Options → List ℕ → Type 0
 NoEscape o cs = list_all (λ c. not (c == 92 && o.backslash_escape)) cs ≡ true
 
-not_true : (x : Bool) → not x ≡ true → x ≡ false
-not_true false h = refl
-not_true true h = absurd (cc)
-
 lexemes_kept : (o : Options) (cs : List ℕ) → NoEscape o cs → nested zero (lexemes o zero (escaped_chars cs)) ≡ Ok (map kept cs)
 unfolding lexemes nested
 lexemes_kept o [] h = refl
 lexemes_kept o (c ∷ cs) h =
-    one_kept_as o c (escaped_chars cs) (is_special c) refl (not_true _ (and_first _ _ h)) ∙ ap (with_lexeme (kept c)) (lexemes_kept o cs (and_second _ _ h))
+    one_kept_as o c (escaped_chars cs) (is_special c) refl (not-true _ (and_first _ _ h)) ∙ ap (with_lexeme (kept c)) (lexemes_kept o cs (and_second _ _ h))
 
 -- ---- tokens
 

@@ -18,16 +18,13 @@ use Rattle.glob_text.specs.SmallRegex.{Entry, single, span, Atom, any_byte, byte
 use Rattle.glob_text.specs.RegexText.{byte_text, bytes_text, ranges_text, class_text, others_text, group_text, with_text, ascii_text, longer_texts, token_text, tokens_text, kept_texts, body_text, regex_text}
 use Rattle.glob_text.specs.RegexDenotes.{HasExpression}
 use Rattle.glob_syntax.specs.declared.options.Options.{Options}
-use Rattle.bit_sets.proofs.lemmas.Booleans.{and_both, and_first, and_second, or_first, or_second, or_either}
+use Rattle.bit_sets.proofs.lemmas.Booleans.{and_both, and_first, and_second, or_first, or_second, or_either, iff_trans}
 use Rattle.glob_syntax.specs.inner.WellFormed.{AreScalars, IsWellFormed, AreWellFormed, AllWellFormed}
 use Rattle.glob_syntax.proofs.lemmas.TokenMatches.{some_any, OneByte, one_byte}
 use Rattle.glob_syntax.proofs.lemmas.MatchesByParts.{TokenMatches, AllMatch, Then, empty_same, equal_bytes, prefix_matches, suffix_matches, between_matches, then_matches}
 use Rattle.glob_text.proofs.lemmas.ByteTexts.{Below, IsSpelled, spells_byte, encode_below, slash_byte, byte_slash, slash_alone, spelled_more, spelled_none, spelled_one}
 use Rattle.glob_text.proofs.lemmas.CharacterTexts.{spells_digits, same_byte, same_span, same_ascii, same_ascii_apart, regex_rows, regex_rows_are}
 use Rattle.glob_text.proofs.lemmas.ClassTexts.{has_ranges}
-
-iff_trans : {A B C : Type 0} → A ↔ B → B ↔ C → A ↔ C
-iff_trans f g = (λ a. g.0 (f.0 a), λ c. f.1 (g.1 c))
 
 -- ---- rows
 

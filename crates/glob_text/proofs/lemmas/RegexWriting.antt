@@ -9,33 +9,13 @@ use Rattle.glob_syntax.specs.declared.token.Token.TheVariants as held_tokens
 use Rattle.glob_syntax.specs.Token.{Token, Group, Tokens, and_then, Branches, none, branch}
 use Rattle.glob_syntax.specs.Reading.{Levels, in_level, open_level, next_branch, close_level}
 use Rattle.glob_syntax.specs.FlatTokens.{Flat, simple, opening, comma, closing, all_levels, levels_of, IsSimple}
-use Rattle.glob_syntax.specs.Views.{flat_of}
 use Rattle.glob_syntax.proofs.lemmas.FlatTokens.{depth}
 use Rattle.glob_syntax.proofs.lemmas.FlatTrees.{AreShaped, shaped}
+use Rattle.glob_syntax.proofs.lemmas.TokenLists.{IsNotBlank}
 use Rattle.glob_syntax.specs.Blank.{is_blank, is_blank_token, are_blank, is_kept, any_kept}
 use Rattle.glob_text.specs.RegexText.{token_text, tokens_text, kept_texts, with_text}
 use Rattle.glob_text.specs.inner.RegexWriting.{rest_text, opener, closer, Place, place, chosen, finish, place_of, places_of, AreCuts, simple_text, Writes}
 use Rattle.glob_text.specs.declared.regex_text.OpenGroup.{OpenGroup}
-
--- ---- tokens that are no group are not blank
-
-abbrev pub IsNotBlank : Flat → Type 0
-IsNotBlank (simple t) = is_blank_token t ≡ false
-IsNotBlank opening = Unit {0}
-IsNotBlank comma = Unit {0}
-IsNotBlank closing = Unit {0}
-
-pub not_blank : (t : held.Token) → IsNotBlank (flat_of t)
-not_blank (held_tokens.Literal c) = refl
-not_blank held_tokens.Any = refl
-not_blank held_tokens.ZeroOrMore = refl
-not_blank held_tokens.RecursivePrefix = refl
-not_blank held_tokens.RecursiveSuffix = refl
-not_blank held_tokens.RecursiveZeroOrMore = refl
-not_blank (held_tokens.Class class) = refl
-not_blank held_tokens.Open = tt
-not_blank held_tokens.Comma = tt
-not_blank held_tokens.Close = tt
 
 -- ---- truth values
 

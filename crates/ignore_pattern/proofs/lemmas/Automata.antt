@@ -13,7 +13,7 @@ use Rattle.ignore_pattern.specs.inner.Views.{is_inside}
 use Rattle.ignore_pattern.specs.inner.States.{HasBelow, BuildsPattern, TellsAbove, IsFor}
 use Rattle.byte_nfa.specs.Leading.{Builds}
 use Rattle.bit_sets.proofs.lemmas.Cuts.{both}
-use Rattle.byte_nfa.proofs.lemmas.Growing.{agrees_old, agrees_higher, builds_then}
+use Rattle.byte_nfa.proofs.lemmas.Growing.{agrees_old, agrees_higher, builds_then, in_push}
 use Rattle.ignore_pattern.proofs.lemmas.Below.{accepted_or_below}
 use Rattle.ignore_pattern.proofs.lemmas.LastComponents.{last_matches}
 
@@ -64,17 +64,6 @@ pattern_built ignore_case p j f b old mid parted new s e u pushed union grows bu
     )
 
 -- ---- one pattern more
-
-pub in_push : (t s : ℕ) (xs : List ℕ) → HasNumber t (xs ++ s ∷ []) ↔ (HasNumber t xs ⊎ (t ≡ s))
-in_push t s [] = (λ h. ⊎_elim {C = ⊥ ⊎ (t ≡ s)} (λ is. inr is) (λ no. absurd no) h, λ h. ⊎_elim {C = (t ≡ s) ⊎ ⊥} (λ no. absurd no) (λ is. inl is) h)
-in_push t s (x ∷ xs) = (
-  λ h. ⊎_elim {C = ((t ≡ x) ⊎ HasNumber t xs) ⊎ (t ≡ s)}
-      (λ here. inl (inl here))
-      (λ later. ⊎_elim {C = ((t ≡ x) ⊎ HasNumber t xs) ⊎ (t ≡ s)} (λ earlier. inl (inr earlier)) (λ last. inr last) ((in_push t s xs).0 later)) h,
-  λ h. ⊎_elim {C = (t ≡ x) ⊎ HasNumber t (xs ++ s ∷ [])}
-      (λ front. ⊎_elim {C = (t ≡ x) ⊎ HasNumber t (xs ++ s ∷ [])} (λ here. inl here) (λ earlier. inr ((in_push t s xs).1 (inl earlier))) front)
-      (λ last. inr ((in_push t s xs).1 (inr last))) h,
-)
 
 -- the pattern matches as that of the number k
 abbrev Last : Bool → List Pattern → Pattern → ℕ → List ℕ → Type 0

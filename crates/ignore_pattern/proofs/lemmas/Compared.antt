@@ -1,17 +1,14 @@
 -- Patterns that share an index in an automaton.
-use Rattle.std.proofs.Common.{◌≡◌, ℕ, ◌⊎◌, inl, inr, Bool, ◌≤◌, IsTrue, List, [], ◌∷◌, ◌++◌, length, refl, ap, sym, ◌∙◌, subst, arith}
+use Rattle.std.proofs.Common.{◌≡◌, ℕ, ◌⊎◌, inl, inr, Bool, ◌≤◌, List, [], ◌∷◌, ◌++◌, length, refl, ap, sym, ◌∙◌, subst, arith}
 use Rattle.std.specs.Prelude.{◌↔◌}
 use Rattle.std.proofs.Math.Logic.{⊎_elim}
-use Rattle.std.proofs.lemmas.List.{append-nil}
-use Rattle.bit_sets.specs.Texts.{AllBytes}
-use Rattle.byte_nfa.specs.Steps.{State, state, match_state, HasNumber, Accepts, ends, NfaValue}
+use Rattle.byte_nfa.specs.Steps.{state, match_state, HasNumber, Accepts, NfaValue}
 use Rattle.byte_nfa.specs.Building.{Agrees, Pushes, Grows}
 use Rattle.ignore_pattern.specs.Patterns.{Pattern, pattern_matches}
 use Rattle.ignore_pattern.specs.Compared.{IndexedPattern, indexed, MatchesFor, SomeMatchFor, Compares}
 use Rattle.ignore_pattern.specs.inner.States.{BuildsAlone}
-use Rattle.byte_nfa.specs.Leading.{Leads, Builds}
-use Rattle.ignore_pattern.proofs.lemmas.Automata.{in_push}
-use Rattle.byte_nfa.proofs.lemmas.Growing.{agrees_old, agrees_higher}
+use Rattle.byte_nfa.specs.Leading.{Builds}
+use Rattle.byte_nfa.proofs.lemmas.Growing.{in_push, agrees_old, agrees_higher}
 use Rattle.byte_nfa.proofs.lemmas.Leading.{accepted}
 
 -- the states that lead to an end alone

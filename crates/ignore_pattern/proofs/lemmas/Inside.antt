@@ -4,7 +4,7 @@ use Rattle.std.specs.Prelude.{◌==◌}
 use Rattle.std.specs.List.{list_all, prefix_len}
 use Rattle.std.specs.Option.{option_map}
 use Rattle.std.specs.Char.{to_ascii_lowercase}
-use Rattle.std.proofs.lemmas.Bool.{cond_both, eqb-true, eq-eqb, false_from_ne_true}
+use Rattle.std.proofs.lemmas.Bool.{cond_both, eqb-true, eq-eqb, false_from_ne_true, or_parts, or_from}
 use Rattle.std.proofs.lemmas.Bool.Decides.{nat_tests}
 use Rattle.std.proofs.lemmas.List.Folds.{list_any-append}
 use Rattle.ignore_pattern.specs.declared.place.Place.{Place}
@@ -15,18 +15,6 @@ use Rattle.ignore_pattern.specs.declared.place.Place.TheVariants.{Start, Elsewhe
 use Rattle.ignore_pattern.specs.inner.Views.{is_inside, are_inside}
 use Rattle.bit_sets.proofs.lemmas.Booleans.{and_both, and_first, and_second}
 use Rattle.bit_sets.proofs.lemmas.Cuts.{cut_of, empty_is, one_of}
-
-none_first : (x y : Bool) → (x || y) ≡ false → x ≡ false
-none_first true y e = absurd (true≢false e)
-none_first false y e = refl
-
-none_second : (x y : Bool) → (x || y) ≡ false → y ≡ false
-none_second true y e = absurd (true≢false e)
-none_second false y e = e
-
-none_both : (x y : Bool) → x ≡ false → y ≡ false → (x || y) ≡ false
-none_both true y e f = absurd (true≢false e)
-none_both false y e f = f
 
 not_false : (x : Bool) → IsTrue (not x) → x ≡ false
 not_false true h = absurd (true≢false (sym h))
@@ -47,7 +35,7 @@ run_inside n rest = refl
 
 escaped_inside : (cs : List ℕ) → has_slash cs ≡ false → OneInside (escaped_at cs)
 escaped_inside [] h = tt
-escaped_inside (c ∷ cs) h = ap not (none_first (c == 47) (has_slash cs) h)
+escaped_inside (c ∷ cs) h = ap not (or_parts (c == 47) (has_slash cs) h).0
 
 class_inside : (skipped : ℕ) (negated : Bool) (o : Option ClassAt)
     → OneInside (elim o as (λ _. Option ElementAt) [ None ↦ None | Some class ↦ Some (at (Class negated class.0) (skipped + class.1) Elsewhere) ])
@@ -62,10 +50,10 @@ class_at_inside (c ∷ cs) =
 element_inside : (place : Place) (c : ℕ) (cs : List ℕ) → has_slash (c ∷ cs) ≡ false → OneInside (element_at false place c cs)
 unfolding element_at
 element_inside place c cs h =
-    cond_both (c == 92) _ _ OneInside (λ e. escaped_inside cs (none_second (c == 47) (has_slash cs) h))
+    cond_both (c == 92) _ _ OneInside (λ e. escaped_inside cs (or_parts (c == 47) (has_slash cs) h).1)
     (λ e. cond_both (c == 63) _ _ OneInside (λ e. refl)
     (λ e. cond_both (c == 42) _ _ OneInside (λ e. run_inside (prefix_len (λ d. d == 42) cs) (drop (prefix_len (λ d. d == 42) cs) cs))
-    (λ e. cond_both (c == 91) _ _ OneInside (λ e. class_at_inside cs) (λ e. ap not (none_first (c == 47) (has_slash cs) h)))))
+    (λ e. cond_both (c == 91) _ _ OneInside (λ e. class_at_inside cs) (λ e. ap not (or_parts (c == 47) (has_slash cs) h).0))))
 
 -- an element before the others
 abbrev with_element : Element → Option (List Element) → Option (List Element)
@@ -84,8 +72,8 @@ all_inside : (cs : List ℕ) (place : Place) (n : ℕ) → has_slash cs ≡ fals
 unfolding elements
 all_inside [] place zero h = refl
 all_inside [] place (suc n) h = refl
-all_inside (c ∷ cs) place (suc n) h = all_inside cs place n (none_second (c == 47) (has_slash cs) h)
-all_inside (c ∷ cs) place zero h = step_inside (element_at false place c cs) cs (element_inside place c cs h) (λ p n. all_inside cs p n (none_second (c == 47) (has_slash cs) h))
+all_inside (c ∷ cs) place (suc n) h = all_inside cs place n (or_parts (c == 47) (has_slash cs) h).1
+all_inside (c ∷ cs) place zero h = step_inside (element_at false place c cs) cs (element_inside place c cs h) (λ p n. all_inside cs p n (or_parts (c == 47) (has_slash cs) h).1)
 
 read_inside : (cs : List ℕ) (place : Place) (es : List Element) → has_slash cs ≡ false → Some es ≡ elements false place zero cs → IsTrue (list_all is_inside es)
 read_inside cs place es h e = subst AllInside (sym e) (all_inside cs place zero h)
@@ -99,7 +87,7 @@ inside_with false cs es h e = read_inside cs Start es (false_from_ne_true (has_s
 inner_is : (x : List ℕ) → IsTrue (list_all is_inner x) → has_slash x ≡ false
 inner_is [] h = refl
 inner_is (c ∷ cs) h =
-    none_both (c == 47) (has_slash cs) (not_false (c == 47) (and_first (is_inner c) (list_all is_inner cs) h)) (inner_is cs (and_second (is_inner c) (list_all is_inner cs) h))
+    or_from (c == 47) (has_slash cs) (not_false (c == 47) (and_first (is_inner c) (list_all is_inner cs) h)) (inner_is cs (and_second (is_inner c) (list_all is_inner cs) h))
 
 -- one byte that is no `/`
 single : (x : List ℕ) (c : ℕ) → x ≡ c ∷ [] → (c ≡ 47 → ⊥) → has_slash x ≡ false
@@ -142,4 +130,4 @@ match_inside ignore_case (e ∷ es) x inside h =
     let (y, z, cut, both) = cut_of (λ front back. element_matches ignore_case e front && elements_match ignore_case es back) x h in
     let first : has_slash y ≡ false = one_inside ignore_case e y (and_first (is_inside e) (list_all is_inside es) inside) (and_first (element_matches ignore_case e y) (elements_match ignore_case es z) both) in
     let others : has_slash z ≡ false = match_inside ignore_case es z (and_second (is_inside e) (list_all is_inside es) inside) (and_second (element_matches ignore_case e y) (elements_match ignore_case es z) both) in
-    ap has_slash cut ∙ list_any-append (λ c. c == 47) y z ∙ none_both (has_slash y) (has_slash z) first others
+    ap has_slash cut ∙ list_any-append (λ c. c == 47) y z ∙ or_from (has_slash y) (has_slash z) first others

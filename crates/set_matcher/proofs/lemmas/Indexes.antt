@@ -1,11 +1,20 @@
 -- The indexes of the items of a list that pass a test.
-use Rattle.std.proofs.Common.{◌≡◌, ℕ, zero, suc, ◌+◌, ◌<◌, List, [], ◌∷◌, length, get_or, Bool, true, false, cond, refl, sym, subst, ◌∙◌, arith}
-use Rattle.std.specs.Prelude.{◌↔◌, filter, Contains, IsTrue}
+use Rattle.std.proofs.Common.{◌≡◌, ℕ, zero, suc, ◌+◌, ◌<◌, List, [], ◌∷◌, length, get_or, Bool, true, false, cond, refl, ap, sym, subst, ◌∙◌, arith}
+use Rattle.std.specs.Prelude.{◌↔◌, ◌≢◌, filter, Contains, IsTrue}
 use Rattle.std.specs.List.{range_with_len}
 use Rattle.std.proofs.lemmas.List.Elements.{filter_passes, All-filter, All-contains, All-from_get_or}
 use Rattle.std.proofs.lemmas.List.FromFn.{length-range_with_len, get_or-range_with_len}
 use Rattle.set_matcher.specs.Indexes.{passes_at, passing_indexes, ContainsAllBelow}
 pub use Rattle.bit_sets.proofs.lemmas.Filters.{filter_more}
+
+-- ---- items
+
+pub some_index : (xs : List ℕ) → xs ≢ [] → (i : ℕ) × Contains xs i
+some_index [] some = absurd (some refl)
+some_index (x ∷ xs) some = (x, (0, omega arith, refl))
+
+pub index_in : (xs : List ℕ) (i : ℕ) → Contains xs i → xs ≢ []
+index_in xs i at e = absurd (omega (arith, at.1, ap length e))
 
 -- ---- items that pass
 

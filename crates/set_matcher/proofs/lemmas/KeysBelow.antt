@@ -12,13 +12,7 @@ use Rattle.set_matcher.specs.inner.KeysBelow.{HasKey, MatchesBelow, by_component
 use Rattle.set_matcher.specs.inner.LiteralIndex.{KeyParts, texts_at}
 use Rattle.set_matcher.specs.inner.Folders.{AreFolders, SomeBelow}
 use Rattle.set_matcher.specs.inner.Parts.{HasOthers}
-
-some_index : (xs : List ℕ) → xs ≢ [] → (i : ℕ) × Contains xs i
-some_index [] some = absurd (some refl)
-some_index (x ∷ xs) some = (x, (0, omega arith, refl))
-
-index_in : (xs : List ℕ) (i : ℕ) → Contains xs i → xs ≢ []
-index_in xs i at e = absurd (omega (arith, at.1, ap length e))
+use Rattle.set_matcher.proofs.lemmas.Indexes.{some_index, index_in}
 
 -- a beginning of a folder and a `/` is that text, or a beginning of the folder
 all_or_front : (key rest folder : List ℕ) → key ++ rest ≡ folder_start folder → (key ≡ folder_start folder) ⊎ ((more : List ℕ) × (key ++ more ≡ folder))

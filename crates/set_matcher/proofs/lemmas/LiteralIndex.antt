@@ -8,6 +8,8 @@ use Rattle.std.proofs.Math.Logic.{⊎_elim}
 use Rattle.std.proofs.lemmas.Bool.{eqb-true}
 use Rattle.std.proofs.lemmas.List.{length-append}
 use Rattle.std.proofs.lemmas.List.Elements.{Contains-append_left, Contains-append_right, Contains-append_cases}
+use Rattle.bit_sets.proofs.lemmas.Booleans.{same_truth}
+use Rattle.bit_sets.proofs.lemmas.IndexSets.{in_one}
 use Rattle.glob_path.specs.Entries.{Entry, entry, indexes_under}
 use Rattle.glob_path.proofs.lemmas.Entries.{with_index}
 use Rattle.glob_path.proofs.lemmas.Entries.{indexes_added}
@@ -19,25 +21,16 @@ use Rattle.glob_path.proofs.lemmas.Laws.{finds_exactly}
 use Rattle.glob_path.specs.Key.{KeyMatches, KeyValue}
 use Rattle.glob_path.specs.Key as path_key
 use Rattle.glob_path.specs.PathParts.{last_component, component_extension}
+use Rattle.glob_path.proofs.lemmas.Anchors.{found_in_none}
 use Rattle.set_matcher.specs.inner.LiteralIndex.{FindsMore, KeyParts, MoreIn, after_separator, keys_found, no_keys, texts_at, with_path, with_component, with_components, with_extension, with_beginning, with_end, with_key}
 
 -- ---- truth values
-
-same_truth : (a b : Bool) → (IsTrue a ↔ IsTrue b) → a ≡ b
-same_truth true true h = refl
-same_truth true false h = sym (h.0 refl)
-same_truth false true h = h.1 refl
-same_truth false false h = refl
 
 true_or_false : (b : Bool) → IsTrue b ⊎ (b ≡ false)
 true_or_false true = inl refl
 true_or_false false = inr refl
 
 -- ---- lists
-
-in_one : (n k : ℕ) → Contains (n ∷ []) k → n ≡ k
-in_one n k (zero, lt, e) = e
-in_one n k (suc j, lt, e) = absurd (omega (arith, lt))
 
 contains_push : (xs : List ℕ) (n k : ℕ) → Contains (xs ++ n ∷ []) k ↔ (Contains xs k ⊎ (n ≡ k))
 contains_push xs n k = (
@@ -324,12 +317,8 @@ components_more t key n path m tells =
 
 -- ---- no keys
 
-none_under : (qs : List (List ℕ)) → flat_map (indexes_under []) qs ≡ []
-none_under [] = refl
-none_under (q ∷ qs) = none_under qs
-
 nothing_found : (path : List ℕ) → keys_found no_keys path ≡ []
-nothing_found path = λ i. none_under (prefixes path) i ++ none_under (suffixes path) i
+nothing_found path = λ i. found_in_none (prefixes path) i ++ found_in_none (suffixes path) i
 
 pub nothing_if : (t : KeyParts) → t ≡ no_keys → (path : List ℕ) → keys_found t path ≡ []
 nothing_if t is path = subst (λ k. keys_found k path ≡ []) (sym is) (nothing_found path)

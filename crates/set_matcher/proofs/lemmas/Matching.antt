@@ -12,8 +12,9 @@ use Rattle.set_matcher.specs.Indexes.{ContainsAllBelow}
 use Rattle.set_matcher.specs.inner.LiteralIndex.{keys_found}
 use Rattle.set_matcher.specs.inner.Automata.{AreFound, AreIdle}
 use Rattle.set_matcher.specs.inner.SetMatcher.{SetMatcherParts, IsSetMatcherOf, listed_count}
-use Rattle.set_matcher.proofs.lemmas.Indexes.{passing_is_contained, contained_passes, passes_within, all_pass}
+use Rattle.set_matcher.proofs.lemmas.Indexes.{passing_is_contained, contained_passes, passes_within, all_pass, some_index, index_in}
 use Rattle.bit_sets.proofs.lemmas.Filters.{filter_same}
+use Rattle.bit_sets.proofs.lemmas.Booleans.{same_truth}
 
 -- a listed glob is in the list
 in_listed : (globs : List TokenGlob) (path : List ℕ) (k : ℕ) → IsTrue (is_reported_at globs path k) → Contains (reported_indexes globs path) k
@@ -36,17 +37,11 @@ marked_listed globs g path room found has are fits by_automata also k = (
       (λ f. inr ((by_automata k).1 f)) ((are.same path k).1 yes_at)),
 )
 
-same_test : (a b : Bool) → (IsTrue a ↔ IsTrue b) → a ≡ b
-same_test true true same = refl
-same_test true false same = sym (same.0 refl)
-same_test false true same = same.1 refl
-same_test false false same = refl
-
 -- the marked indexes in order
 pub marked_are : (globs : List TokenGlob) (path : List ℕ) (n : ℕ) (has : ℕ → Bool) → length globs ≡ n → ((k : ℕ) → IsTrue (has k) ↔ IsTrue (is_reported_at globs path k))
     → filter has (range_with_len 0 n) ≡ reported_indexes globs path
 marked_are globs path n has count same =
-    ap (λ m. filter has (range_with_len 0 m)) (sym count) ∙ filter_same has (is_reported_at globs path) (length globs) (λ k. same_test (has k) (is_reported_at globs path k) (same k))
+    ap (λ m. filter has (range_with_len 0 m)) (sym count) ∙ filter_same has (is_reported_at globs path) (length globs) (λ k. same_truth (has k) (is_reported_at globs path k) (same k))
 
 -- every index is marked
 pub all_marked : (globs : List TokenGlob) (path : List ℕ) (n : ℕ) (has : ℕ → Bool) → length globs ≡ n → ((k : ℕ) → IsTrue (has k) ↔ IsTrue (is_reported_at globs path k))
@@ -65,13 +60,6 @@ keys_listed globs g path are idle k = (
 
 -- ---- some index
 
-some_of : (xs : List ℕ) → xs ≢ [] → (k : ℕ) × Contains xs k
-some_of [] h = absurd (h refl)
-some_of (x ∷ xs) h = (x, (0, omega arith, refl))
-
-not_none : (xs : List ℕ) (k : ℕ) → Contains xs k → xs ≢ []
-not_none xs k (i, lt, is) e = let n = ap length e in omega (arith, lt, n)
-
 pub none_from : (xs : List ℕ) → (xs ≢ [] → ⊥) → xs ≡ []
 none_from [] h = refl
 none_from (x ∷ xs) h = absurd (h (λ e. let n = ap length e in omega (arith, n)))
@@ -80,26 +68,26 @@ none_from (x ∷ xs) h = absurd (h (λ e. let n = ap length e in omega (arith, n
 pub nothing_listed : (globs : List TokenGlob) (g : SetMatcherParts) (path : List ℕ) → IsSetMatcherOf globs g → AreIdle g.automata path → keys_found g.keys path ≡ [] → reported_indexes globs path ≡ []
 nothing_listed globs g path are idle none =
     none_from (reported_indexes globs path)
-    (λ some. let (k, in_all) = some_of (reported_indexes globs path) some in not_none (keys_found g.keys path) k ((keys_listed globs g path are idle k).1 in_all) none)
+    (λ some. let (k, in_all) = some_index (reported_indexes globs path) some in index_in (keys_found g.keys path) k ((keys_listed globs g path are idle k).1 in_all) none)
 
 -- some glob is reported
 pub some_listed : (globs : List TokenGlob) (path : List ℕ) → (reported_indexes globs path ≢ []) ↔ ((k : ℕ) × IsTrue (is_reported_at globs path k))
 some_listed globs path = (
-  λ h. let (k, in_all) = some_of (reported_indexes globs path) h in (k, listed_in globs path k in_all),
-  λ (k, at). not_none (reported_indexes globs path) k (in_listed globs path k at),
+  λ h. let (k, in_all) = some_index (reported_indexes globs path) h in (k, listed_in globs path k in_all),
+  λ (k, at). index_in (reported_indexes globs path) k (in_listed globs path k at),
 )
 
 pub some_key : (globs : List TokenGlob) (g : SetMatcherParts) (path : List ℕ) → IsSetMatcherOf globs g → keys_found g.keys path ≢ [] → IsTrue true ↔ (reported_indexes globs path ≢ [])
 some_key globs g path are some =
-    let (k, key) = some_of (keys_found g.keys path) some in
-    (λ t. not_none (reported_indexes globs path) k (in_listed globs path k ((are.same path k).0 (inl key))), λ h. refl)
+    let (k, key) = some_index (keys_found g.keys path) some in
+    (λ t. index_in (reported_indexes globs path) k (in_listed globs path k ((are.same path k).0 (inl key))), λ h. refl)
 
 pub some_found : (globs : List TokenGlob) (g : SetMatcherParts) (path : List ℕ) (r : Bool) (are : IsSetMatcherOf globs g) → (keys_found g.keys path ≢ [] → ⊥)
     → (IsTrue r ↔ ((k : ℕ) × AreFound g.automata.extensions.slots are.tokens path k)) → IsTrue r ↔ (reported_indexes globs path ≢ [])
 some_found globs g path r are off same = (
-  λ h. let (k, found) = same.0 h in not_none (reported_indexes globs path) k (in_listed globs path k ((are.same path k).0 (inr found))),
-  λ h. let (k, in_all) = some_of (reported_indexes globs path) h in
-      same.1 (k, ⊎_elim {C = AreFound g.automata.extensions.slots are.tokens path k} (λ key. absurd (off (not_none (keys_found g.keys path) k key))) (λ found. found) ((are.same path k).1 (listed_in globs path k in_all))),
+  λ h. let (k, found) = same.0 h in index_in (reported_indexes globs path) k (in_listed globs path k ((are.same path k).0 (inr found))),
+  λ h. let (k, in_all) = some_index (reported_indexes globs path) h in
+      same.1 (k, ⊎_elim {C = AreFound g.automata.extensions.slots are.tokens path k} (λ key. absurd (off (index_in (keys_found g.keys path) k key))) (λ found. found) ((are.same path k).1 (listed_in globs path k in_all))),
 )
 
 -- ---- every index

@@ -10,7 +10,8 @@ use Rattle.byte_nfa.specs.Building.{Pushes, Grows}
 use Rattle.byte_nfa.specs.Runs.{size}
 use Rattle.glob_strategy.specs.inner.Frames.{Frame, frame_of, frames_of, ended, targets_of, Stands}
 use Rattle.byte_nfa.proofs.lemmas.Growing.{grows_none, grows_then}
-use Rattle.glob_strategy.proofs.lemmas.Frames.{frames_push, frames_length, below_targets, within_ended, stands_flat, not_blank, stands_close, stands_comma, stands_group, stands_whole, weight_whole}
+use Rattle.glob_strategy.proofs.lemmas.Frames.{frames_push, frames_length, below_targets, within_ended, stands_flat, stands_close, stands_comma, stands_group, stands_whole, weight_whole}
+use Rattle.glob_syntax.proofs.lemmas.TokenLists.{not_blank}
 use Rattle.glob_strategy.proofs.states.add_sequence.Goals as goal
 use Rattle.glob_strategy.proofs.states.add_sequence.Goals.{in-Close+in_ok-push-in-Close, in-Comma+in_ok-frame-in-Comma, in-Open+in_ok-group-in-Open+in_ok-targets-in-Open+in_ok-start-in-Open+in-Some, in_default+in_ok-start-in_default}
 

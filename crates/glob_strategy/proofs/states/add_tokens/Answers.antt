@@ -1,7 +1,8 @@
 use Rattle.std.proofs.Common.{[], ◌∷◌, length, ap, arith}
 use Rattle.std.proofs.lemmas.List.{length-append}
 use Rattle.glob_syntax.specs.Views.{tokens_of}
-use Rattle.glob_strategy.proofs.lemmas.IndexedTokens.{one_more, still_for, on_err}
+use Rattle.glob_strategy.proofs.lemmas.IndexedTokens.{one_more, still_for}
+use Rattle.byte_nfa.proofs.lemmas.Pushing.{on_err}
 use Rattle.glob_strategy.proofs.states.add_tokens.Goals as goal
 
 pub returns-clause-tokens : goal.returns-clause-tokens

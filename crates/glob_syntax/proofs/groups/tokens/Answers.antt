@@ -4,7 +4,7 @@ use Rattle.glob_syntax.specs.Views.{flats}
 use Rattle.glob_syntax.specs.inner.LexemeViews.{lexeme_of, lexemes_of}
 use Rattle.glob_syntax.specs.inner.TokenReading.{ReadsTo}
 use Rattle.std.proofs.lemmas.List.{length-map}
-use Rattle.glob_syntax.proofs.lemmas.Lists.{head_cell}
+use Rattle.bit_sets.proofs.lemmas.Cuts.{head_cell}
 use Rattle.glob_syntax.proofs.lemmas.SetMatcher.{lexemes_after, reads_both, whole_run, finish, nested_at_end}
 use Rattle.glob_syntax.proofs.groups.tokens.Goals as goal
 

@@ -6,7 +6,8 @@ use Rattle.glob_syntax.specs.Views.{flat_of, flats, tokens_of}
 use Rattle.glob_text.specs.RegexText.{tokens_text}
 use Rattle.glob_text.specs.inner.RegexWriting.{Writes}
 use Rattle.glob_text.specs.declared.regex_text.OpenGroup.{OpenGroup}
-use Rattle.glob_text.proofs.lemmas.RegexWriting.{splits_at_group, not_blank, writes_simple, writes_open, writes_comma, writes_close}
+use Rattle.glob_text.proofs.lemmas.RegexWriting.{splits_at_group, writes_simple, writes_open, writes_comma, writes_close}
+use Rattle.glob_syntax.proofs.lemmas.TokenLists.{not_blank}
 use Rattle.glob_text.proofs.regex_text.push_each.Goals as goal
 use Rattle.glob_text.proofs.regex_text.push_each.Goals.{in-Open+in_ok-start_branch-in-Open, in-Comma+in-Some+in_ok-start_branch-in-Comma, in-Close+in-Some-pop+in_ok-kept-in-Close, in_default+in_ok-push_simple-in_default}
 

@@ -1,7 +1,7 @@
 use Rattle.std.proofs.Common.{zero, true, None, ◌==◌, sym, ap, ◌∙◌, arith}
 use Rattle.std.specs.List.{position}
 use Rattle.ignore_pattern.specs.Classes.{class_items}
-use Rattle.ignore_pattern.proofs.lemmas.Lists.{head_cell}
+use Rattle.bit_sets.proofs.lemmas.Cuts.{head_cell}
 use Rattle.ignore_pattern.proofs.lemmas.Classes.{starts, ends, closed, unreadable, goes_on}
 use Rattle.ignore_pattern.proofs.class.class_items.Goals as goal
 

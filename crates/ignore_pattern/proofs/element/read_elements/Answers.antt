@@ -1,7 +1,7 @@
 use Rattle.std.proofs.Common.{[], ◌∷◌, ◌∙◌, ap, arith}
 use Rattle.std.proofs.lemmas.List.{map-append}
 use Rattle.ignore_pattern.specs.inner.Views.{element_of, elements_of, at_of}
-use Rattle.ignore_pattern.proofs.lemmas.Lists.{head_cell}
+use Rattle.bit_sets.proofs.lemmas.Cuts.{head_cell}
 use Rattle.ignore_pattern.proofs.lemmas.Reading.{ends, unreadable, goes_on}
 use Rattle.ignore_pattern.proofs.element.read_elements.Goals as goal
 

@@ -1,5 +1,5 @@
 use Rattle.ignore_pattern.specs.Lines.{without_spaces}
-use Rattle.ignore_pattern.proofs.lemmas.Lists.{head_cell}
+use Rattle.bit_sets.proofs.lemmas.Cuts.{head_cell}
 use Rattle.ignore_pattern.proofs.lemmas.Lines.{starts, space_step, other_step}
 use Rattle.ignore_pattern.proofs.line.without_spaces.Goals as goal
 
