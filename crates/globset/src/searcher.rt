@@ -65,9 +65,8 @@ impl Searcher {
     ghost use Rattle.globset.specs.Lending.{LendsFound};
 
     /// Returns a searcher of the set, which shares the keys and automata of the set. It allocates eight bytes for each glob, and
-    /// as much as a [`Scratch`] for the set. It also allocates a cache of rows for each automaton of the set: together up to a
-    /// quarter of the limit that [`GlobSetBuilder::dfa_size_limit`](crate::GlobSetBuilder::dfa_size_limit) sets, 4 MiB by default
-    /// and 8 MiB at most. A cache is larger only if the states of a row take most of it.
+    /// as much as a [`Scratch`] for the set, but the set gets no rows for it. It also allocates a cache of rows for each automaton
+    /// of the set, of the size that [`GlobSetBuilder::dfa_size_limit`](crate::GlobSetBuilder::dfa_size_limit) tells.
     ///
     /// Fails only if memory runs out or 2^63 sets share these.
     pub fn new(alloc: Global, set: &GlobSet) -> Result<Searcher, Error>
@@ -76,7 +75,8 @@ impl Searcher {
         ensures err { IsOkUnless result out_of_memory }
     {
         let set = set.clone()?;
-        let scratch = Scratch::new(alloc, &set)?;
+        let mut scratch = Scratch::empty(alloc);
+        scratch.reserve(&set)?;
         let (matcher, caches) = match &set.matcher {
             Some(matcher) => (Some(Arc::try_clone(matcher)?), matcher.new_caches(alloc)?),
             None => (None, Caches::none()),

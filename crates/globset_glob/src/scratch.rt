@@ -154,14 +154,36 @@ impl Scratch {
             → IsOk result }
         ensures err { IsOkUnless result out_of_memory }
     {
+        // What fitted before takes no memory, for a cache either.
+        let lacks_room = !self.fits(set);
+        self.reserve(set)?;
+        if lacks_room {
+            set.keep_caches();
+        }
+        Ok(())
+    }
+
+    /// Like [`Scratch::fit`], for a searcher, which has caches of its own: the set or the matcher keeps no rows for this scratch.
+    #[doc(hidden)]
+    pub fn reserve<S: NeedsScratch>(&mut self, set: &S) -> Result<(), Error>
+        // Success raises each number to the need, if it is lower, and then the scratch fits.
+        ensures raised { OnOk result
+            (self.new ≡ raised self.old (S.states set.now) (S.indexes set.now)) }
+        ensures fits { OnOk result (HasCapacity self.new (S.states set.now) (S.indexes set.now)) }
+
+        // An error changes nothing. In both cases the scratch fits what it fitted before.
+        ensures kept { OnErr result (self.new ≡ self.old) }
+        ensures others { FitsAsBefore self.old self.new }
+
+        // The call fails only if memory runs out, and never if the scratch fits already.
+        ensures succeeds_if_fits { HasCapacity self.old (S.states set.now) (S.indexes set.now)
+            → IsOk result }
+        ensures err { IsOkUnless result out_of_memory }
+    {
         let states = self.states.max(set.states_needed().ok_or(AllocError)?);
         let indexes = self.indexes.max(set.indexes_needed());
         self.sets.reserve(states)?;
         self.marks.reserve(indexes)?;
-        // What fitted before takes no memory, for a cache either.
-        if states > self.states || indexes > self.indexes {
-            set.keep_caches();
-        }
         self.states = states;
         self.indexes = indexes;
         Ok(())
