@@ -28,6 +28,8 @@ pub struct Compiled {
     source: Source,
     simulation: Arc<Simulation>,
     rows: Option<RowSource>,
+    /// Whether each call may take memory for rows, and not only calls that have to take it for sets of states.
+    always_grows: bool,
 }
 
 impl Model for Compiled {
@@ -62,7 +64,18 @@ impl Compiled {
             source,
             simulation,
             rows,
+            always_grows: false,
         })
+    }
+
+    /// Sets whether each call may take memory for rows, also one whose sets of states have room. Such a call goes on without more
+    /// memory if there is none.
+    pub fn growing(self, yes: bool) -> Compiled
+        ensures { result ≡ self }
+    {
+        let mut growing = self;
+        growing.always_grows = yes;
+        growing
     }
 
     /// Returns whether there is room for rows.
@@ -119,7 +132,13 @@ impl Compiled {
     }
 
     /// Returns whether a call with these sets of states may take memory: whether they have no room for all states.
-    fn may_take_memory(&self, sets: &StateSets) -> bool
+    /// Where [`Compiled::growing`] was called, each may.
+    fn may_take_memory(&self, sets: &StateSets) -> bool {
+        self.always_grows || self.lack_room(sets)
+    }
+
+    /// Returns whether these sets of states have no room for all states.
+    fn lack_room(&self, sets: &StateSets) -> bool
         ensures { (result ≡ false) ↔ (size self.now ≤ sets_capacity sets.now) }
     {
         !sets.has_capacity_for(self.source.state_count())

@@ -39,7 +39,8 @@ pub struct KeptCaches {
     first: Published,
     second: Published,
     third: Published,
-    /// The most bytes of a cache.
+    /// The most caches, and the most bytes of each.
+    most: usize,
     most_bytes: usize,
     /// The bytes of the next cache.
     next_bytes: AtomicUsize,
@@ -93,8 +94,9 @@ const SECOND_USES: usize = 1 << 14;
 const THIRD_USES: usize = 1 << 18;
 
 impl KeptCaches {
-    /// Returns room for the caches of an automaton, of at most `most_bytes` bytes each. None is made yet.
-    pub fn new(automaton: &Nfa, most_bytes: usize) -> KeptCaches
+    /// Returns room for the caches of an automaton, at most `most`, of at least `least_bytes` and at most `most_bytes` bytes each.
+    /// None is made yet.
+    pub fn new(automaton: &Nfa, most: usize, least_bytes: usize, most_bytes: usize) -> KeptCaches
         ensures { result ≡ automaton.now }
     {
         KeptCaches {
@@ -102,8 +104,9 @@ impl KeptCaches {
             first: Published::new(automaton),
             second: Published::new(automaton),
             third: Published::new(automaton),
+            most,
             most_bytes,
-            next_bytes: AtomicUsize::new(FIRST_BYTES.min(most_bytes)),
+            next_bytes: AtomicUsize::new(FIRST_BYTES.max(least_bytes).min(most_bytes)),
             made: AtomicUsize::new(0),
             bytes: AtomicUsize::new(0),
             misses: AtomicUsize::new(0),
@@ -133,26 +136,16 @@ impl KeptCaches {
         }
     }
 
-    /// Gives a cache back after a call, for later calls. In a call that may allocate, a cache without room for all rows makes way
-    /// for a larger cache. A cache that enough calls used is published, and the next call that misses an entry of it makes
-    /// another.
+    /// Gives a cache back after a call, for later calls. If the call may allocate, a cache that enough calls used and that had room
+    /// for all rows is published, and the next call that misses an entry of it makes another.
     pub fn give(&self, kept: Kept, may_make: bool)
         requires { kept.cache ≡ self.now }
     {
         let Kept { cache, bytes, uses } = kept;
         let uses = uses.saturating_add(1);
         let kept = Kept { cache, bytes, uses };
-        if may_make {
-            if kept.cache.has_forgotten() {
-                if bytes < self.most_bytes {
-                    self.next_bytes.fetch_max(
-                        bytes.saturating_mul(4).min(self.most_bytes),
-                        Ordering::SeqCst,
-                    );
-                    self.count_one_less(bytes);
-                    return;
-                }
-            } else if let Some(place) = self.place_after(uses) {
+        if may_make && !kept.cache.has_forgotten() {
+            if let Some(place) = self.place_after(uses) {
                 if let Some(kept) = place.set(kept) {
                     self.put(kept);
                 }
@@ -162,33 +155,56 @@ impl KeptCaches {
         self.put(kept);
     }
 
+    /// Returns how many bytes a cache is to take in place of this one, if this one had no room for all rows and may be larger: four
+    /// times as many, up to the most. So many take those that are made from now on, too.
+    pub fn larger_bytes(&self, kept: &Kept) -> Option<usize> {
+        if !kept.cache.has_forgotten() || kept.bytes >= self.most_bytes {
+            return None;
+        }
+        let bytes = kept.bytes.saturating_mul(4).min(self.most_bytes);
+        self.next_bytes.fetch_max(bytes, Ordering::SeqCst);
+        Some(bytes)
+    }
+
     /// Puts a cache into the pool.
     pub fn put(&self, kept: Kept)
         requires { kept.cache ≡ self.now }
     {
         if let Some(kept) = self.pool.give(kept) {
-            // Other calls were at every place, so this cache is dropped, and another may be made for it.
-            self.count_one_less(kept.bytes);
+            // Other calls were at every place, so another cache may be made for this one.
+            self.dismiss(kept);
         }
+    }
+
+    /// Drops a cache, and takes it out of the count when its memory is free.
+    pub fn dismiss(&self, kept: Kept) {
+        let bytes = kept.bytes;
+        drop(kept);
+        self.count_one_less(bytes);
+    }
+
+    /// Returns whether fewer caches are kept than may be.
+    pub fn has_room(&self) -> bool {
+        self.made.load(Ordering::SeqCst) < self.most
     }
 
     /// Returns where a cache is published after `uses` calls, if it is. One cache at least stays in the pool.
     fn place_after(&self, uses: usize) -> Option<&Published>
         ensures { IfSome result (λ place. place.now ≡ self.now) }
     {
-        if uses < FIRST_USES {
+        if uses < FIRST_USES || self.most < 2 {
             return None;
         }
         if self.first.get().is_none() {
             return Some(&self.first);
         }
-        if uses < SECOND_USES {
+        if uses < SECOND_USES || self.most < 3 {
             return None;
         }
         if self.second.get().is_none() {
             return Some(&self.second);
         }
-        if uses < THIRD_USES || self.third.get().is_some() {
+        if uses < THIRD_USES || self.most < 4 || self.third.get().is_some() {
             return None;
         }
         Some(&self.third)
@@ -207,11 +223,11 @@ impl KeptCaches {
 
     /// Counts another cache, of `bytes` bytes, which the caller makes. Returns whether there is room for it.
     pub fn count_one_more(&self, bytes: usize) -> bool {
-        if self.made.load(Ordering::SeqCst) >= MOST_KEPT {
+        if !self.has_room() {
             return false;
         }
         self.bytes.fetch_add(bytes, Ordering::SeqCst);
-        if self.made.fetch_add(1, Ordering::SeqCst) >= MOST_KEPT {
+        if self.made.fetch_add(1, Ordering::SeqCst) >= self.most {
             self.count_one_less(bytes);
             return false;
         }

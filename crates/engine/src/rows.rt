@@ -47,8 +47,8 @@ impl RowSource {
     /// Returns what rows of an automaton are made from.
     ///
     /// At most four caches are kept between calls, which take at most the share of `dfa_size_limit` bytes that the states have in
-    /// `all_states`. It takes time and memory linear in the states. Returns `None` if the share is too small or there are too
-    /// many states or indexes.
+    /// `all_states`; fewer, if the least that a cache takes is more than a quarter of the share. It takes time and memory linear
+    /// in the states. Returns `None` if the share is too small or there are too many states or indexes.
     pub fn new(
         alloc: Global,
         dfa_size_limit: usize,
@@ -59,19 +59,21 @@ impl RowSource {
         requires { (arc_value simulation.now).nfa ≡ automaton.now }
         ensures { IfOk result (λ made. IfSome made (λ rows. rows ≡ automaton.now)) }
     {
-        let cache_bytes = share_of(
-            (dfa_size_limit / MOST_KEPT).min(MOST_BYTES),
-            automaton.state_count(),
-            all_states,
-        );
-        if cache_bytes < FEWEST_BYTES || !simulation.may_have_rows() {
+        let states = automaton.state_count();
+        let share = share_of(dfa_size_limit, states, all_states);
+        let least = Cache::least_bytes(simulation);
+        let most = (share / least.max(1)).min(MOST_KEPT);
+        if share / MOST_KEPT < FEWEST_BYTES || most == 0 || !simulation.may_have_rows() {
             return Ok(None);
         }
+        let cache_bytes = (share / most)
+            .min(share_of(MOST_BYTES, states, all_states))
+            .max(least);
         Ok(Some(RowSource {
             alloc,
             simulation: Arc::try_clone(simulation)?,
             cache_bytes,
-            kept: Box::new(alloc, KeptCaches::new(automaton, cache_bytes))?,
+            kept: Box::new(alloc, KeptCaches::new(automaton, most, least, cache_bytes))?,
             source: Snapshot::of(automaton),
         }))
     }
@@ -100,7 +102,7 @@ impl RowSource {
     }
 
     /// Takes a cache that is kept for one call. If there is none and memory may be taken, it makes one, except the first calls.
-    fn take(&self, may_make: bool) -> Option<Kept>
+    pub fn take(&self, may_make: bool) -> Option<Kept>
         ensures { IfSome result (λ kept. kept.cache ≡ self.now) }
     {
         if let Some(taken) = self.kept.take() {
@@ -110,6 +112,31 @@ impl RowSource {
             return self.make(self.kept.next_bytes());
         }
         None
+    }
+
+    /// Gives a cache back after a call. In a call that may allocate, a cache without room for all rows makes way for a larger one,
+    /// and stays if there is no memory for that.
+    pub fn give(&self, kept: Kept, may_make: bool)
+        requires { kept.cache ≡ self.now }
+    {
+        let more = if may_make {
+            self.kept.larger_bytes(&kept)
+        } else {
+            None
+        };
+        let Some(bytes) = more else {
+            self.kept.give(kept, may_make);
+            return;
+        };
+        if let Some(larger) = self.make(bytes) {
+            self.kept.dismiss(kept);
+            self.kept.put(larger);
+        } else if self.kept.has_room() {
+            self.kept.put(kept);
+        } else {
+            // Of so many caches none is larger before another one is gone.
+            self.kept.dismiss(kept);
+        }
     }
 
     /// Makes a cache of `bytes` bytes, if fewer caches are kept than may be, and there is memory for it.
@@ -175,7 +202,7 @@ impl RowSource {
             return false;
         };
         kept.cache.find(text, found, visits);
-        self.kept.give(kept, may_make);
+        self.give(kept, may_make);
         true
     }
 
@@ -196,7 +223,7 @@ impl RowSource {
         }
         let mut kept = self.take(may_make)?;
         let is_match = kept.cache.is_match(text, visits);
-        self.kept.give(kept, may_make);
+        self.give(kept, may_make);
         Some(is_match)
     }
 
@@ -223,7 +250,7 @@ impl RowSource {
         }
         let mut kept = self.take(may_make)?;
         let can_match = kept.cache.can_match_after(text, byte, visits);
-        self.kept.give(kept, may_make);
+        self.give(kept, may_make);
         Some(can_match)
     }
 }

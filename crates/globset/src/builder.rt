@@ -58,20 +58,20 @@ impl GlobSetBuilder {
     /// Sets the limit on the bytes of rows that a set keeps between calls, for all its automata together. The default is
     /// [`DEFAULT_DFA_SIZE_LIMIT`], 16 MiB.
     ///
+    /// **The rows that a set keeps take at most `bytes` bytes at any time, and so do those of a [`Searcher`](crate::Searcher): an
+    /// automaton has the share `S = bytes * states / (states of all automata)`, a cache of rows for it takes at least
+    /// `L = max(4160, 16 * ((2 * states + 2 * globs + starts + 1) / 3 + 1))` bytes, the set keeps at most `N = min(4, S / L)` caches
+    /// for it, each of at most `S / N` bytes, a searcher has one of them, and the automaton has none if `S` is less than `L` or than
+    /// 16 KiB.** These bytes are those of the entries of rows, of their lists, and of the tables that find them. A cache takes
+    /// besides at most 1 KiB, and two bits for each state and each glob. The caches of a searcher take at most 8 MiB together, but
+    /// each may take `L`. Other memory has no limit: keys and states take memory linear in the texts of the globs.
+    ///
     /// The limit trades memory for time, and changes no answer. The globs that need an automaton share a few. A row is a state of
-    /// a lazy DFA: calls make rows as paths need them, and then read an entry of a row for each byte of a path. The set keeps at
-    /// most four caches of rows for each automaton, and the automata share the limit by their numbers of states. A
-    /// [`Searcher`](crate::Searcher) has such a cache for each automaton, so its rows take at most a quarter of the limit. An
-    /// automaton whose cache would have less than 4 KiB has no rows. It is stepped instead, as in a call that finds no cache:
-    /// each byte of a path then takes a step for each current state of the automaton. Calls without a scratch then allocate two
-    /// bits for each state.
-    ///
-    /// The limit counts all memory of rows: their entries, their lists of states, and the table that finds them. A cache always
-    /// has room for the states of a row, and a quarter of its bytes for rows, even if that passes its part of the limit. Except
-    /// for such caches, the caches of a searcher take at most 8 MiB together, under any limit.
-    ///
-    /// With 0 there are no rows, and the set keeps no memory between calls. That is best for few paths. Other memory has no
-    /// limit: keys and states take memory linear in the texts of the globs.
+    /// a lazy DFA: calls make rows as paths need them, and then read an entry of a row for each byte of a path. The caches of a set
+    /// begin small, and get larger as paths need it; that of a searcher has its size from the first. An automaton that has no cache
+    /// is stepped, as in a call that finds none that is free: each byte of a path then takes a step for each current state of the
+    /// automaton. Calls without a scratch then allocate two bits for each state. With 0 there are no rows, and the set keeps no
+    /// memory between calls. That is best for few paths.
     ///
     /// ```rust
     /// use globset::{Glob, GlobSetBuilder};

@@ -126,8 +126,8 @@ impl GlobSet {
     /// iterators over either.
     ///
     /// Keys and states take time and memory linear in the texts of the globs, except that some of these are sorted. Rows of
-    /// automata are made by calls that match, and those that the set keeps take at most 16 MiB
-    /// ([`DEFAULT_DFA_SIZE_LIMIT`](crate::DEFAULT_DFA_SIZE_LIMIT)). [`GlobSetBuilder::dfa_size_limit`] sets another limit.
+    /// automata are made by calls that match, and those that the set keeps are limited by
+    /// [`DEFAULT_DFA_SIZE_LIMIT`](crate::DEFAULT_DFA_SIZE_LIMIT). [`GlobSetBuilder::dfa_size_limit`] sets another limit.
     pub fn new<'g, I: IntoIterator<Item = &'g Glob>>(
         alloc: Global,
         globs: I,
@@ -192,8 +192,8 @@ impl GlobSet {
     }
 
     /// Returns for how many bytes of rows the set keeps caches between calls. It is 0 in a new set, and calls raise it, at most
-    /// to the limit that [`GlobSetBuilder::dfa_size_limit`] sets. A cache takes less memory than that if the automaton is small, and
-    /// more if the states of a row need it. Clones share the caches.
+    /// to the limit that [`GlobSetBuilder::dfa_size_limit`] sets. A cache takes less memory than that if the automaton is small.
+    /// Clones share the caches.
     ///
     /// ```rust
     /// use globset::{Glob, GlobSet};

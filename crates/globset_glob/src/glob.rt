@@ -143,8 +143,8 @@ impl Glob {
     /// Returns a matcher for an equal glob.
     ///
     /// If the glob's literals decide alone, it copies them. Otherwise it makes an automaton, in time and memory linear in the
-    /// glob's text. Rows of this are made by calls that match, and those that the matcher keeps take at most 16 MiB
-    /// ([`DEFAULT_DFA_SIZE_LIMIT`]).
+    /// glob's text. Rows of this are made by calls that match, and those that the matcher keeps are limited by
+    /// [`DEFAULT_DFA_SIZE_LIMIT`].
     pub fn compile_matcher(&self) -> Result<GlobMatcher, Error>
         ensures ok { IfOk result (λ m. m ≡ self.now) }
         ensures err { IsOkUnless result out_of_memory }
@@ -155,12 +155,11 @@ impl Glob {
     /// Returns a matcher for an equal glob, as [`Glob::compile_matcher`] does, which keeps rows of at most `dfa_size_limit` bytes
     /// between calls.
     ///
-    /// The limit trades memory for time, and changes no answer. It counts all memory of rows: their entries, their lists of
-    /// states, and the table that finds them. A cache always has room for the states of a row, and a quarter of its bytes for rows,
-    /// even if that passes its quarter of the limit.
-    /// Under a limit of less than 16 KiB there are no rows. Each byte of a path then takes a step for each current state of the
-    /// automaton, and calls without a searcher allocate for each path. A glob whose literals decide alone has no automaton under
-    /// any limit. The limit of [`Glob::compile_matcher`] is [`DEFAULT_DFA_SIZE_LIMIT`].
+    /// The limit trades memory for time, and changes no answer. It means what `GlobSetBuilder::dfa_size_limit` in `globset` says
+    /// of a set with one automaton, and what that says of a searcher is said of a [`MatcherSearcher`](crate::MatcherSearcher).
+    /// Where it is too low for rows, each byte of a path takes a step for each current state of the automaton, and calls without a
+    /// searcher allocate for each path. A glob whose literals decide alone has no automaton under any limit. The limit of
+    /// [`Glob::compile_matcher`] is [`DEFAULT_DFA_SIZE_LIMIT`].
     ///
     /// ```rust
     /// use globset::Glob;

@@ -500,9 +500,8 @@ impl Model for MatcherSearcher {
 impl MatcherSearcher {
     /// Returns a searcher that matches as the matcher does. It copies the matcher's glob, shares its automaton, and allocates
     /// two bits for each state of the automaton. These are at most 8 bits for each byte of the glob's text and 8 more, or four
-    /// times as much under `whole_character`. It also allocates a cache of rows: up to a quarter of the matcher's limit
-    /// ([`Glob::compile_matcher_with_limit`](crate::Glob::compile_matcher_with_limit)), so 4 MiB by default, and at most 8 MiB.
-    /// The cache is larger only if the automaton has too many states for a row to fit.
+    /// times as much under `whole_character`. It also allocates a cache of rows, of the size that
+    /// [`Glob::compile_matcher_with_limit`](crate::Glob::compile_matcher_with_limit) tells.
     ///
     /// Fails only if memory runs out or 2^63 matchers share the automaton.
     pub fn new(alloc: Global, matcher: &GlobMatcher) -> Result<MatcherSearcher, Error>

@@ -8,7 +8,7 @@ ghost use Rattle.byte_nfa.specs.Runs.{size};
 ghost use Rattle.byte_nfa.specs.Steps.{NfaValue, IsReached};
 ghost use Rattle.lazy_dfa.specs.inner.Rows.{IsSound};
 
-use crate::rows::Rows;
+use crate::rows::{self, Rows};
 use bit_sets::{IndexSet, Visits};
 use byte_nfa::Simulation;
 use std::alloc::{AllocError, Global};
@@ -35,6 +35,11 @@ impl Model for Cache {
 }
 
 impl Cache {
+    /// Returns a number of bytes from which on a cache of the automaton takes no more than it is asked to take.
+    pub fn least_bytes(simulation: &Simulation) -> usize {
+        rows::least_bytes(simulation.automaton(), simulation.indexes().len())
+    }
+
     /// Returns a cache with no rows.
     ///
     /// It takes at most so many bytes, fewer where a small automaton cannot fill them, and more only where the states of a row

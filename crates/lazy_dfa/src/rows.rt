@@ -654,6 +654,19 @@ fn room_within(bytes: usize, width: usize, states: usize, taken: usize) -> Limit
     }
 }
 
+/// Returns a number of bytes from which on [`room_within`] returns no more room than fits: three quarters of so many are enough for
+/// the lists that there is always room for, and one for a row of the most entries.
+pub fn least_bytes(automaton: &Nfa, found: usize) -> usize {
+    let states = automaton.state_count().saturating_mul(2).saturating_add(1);
+    let taken = found
+        .saturating_mul(2)
+        .saturating_add(automaton.starts().len());
+    let listed = states.saturating_add(taken) / 3 + 1;
+    listed
+        .max(257 + 3)
+        .saturating_mul(4 * mem::size_of::<u32>())
+}
+
 /// Returns for how many rows an automaton of so many states has room at most: one for each set of states. So the cache of a small
 /// automaton takes little memory, and is made quickly.
 fn most_rows(states: usize) -> usize {
