@@ -559,6 +559,12 @@ int globset_ignore_new(uint32_t options, globset_ignore **ignore) {
     return result_of(status);
 }
 
+int globset_ignore_set_dfa_size_limit(globset_ignore *ignore, size_t bytes) {
+    globset_owned owned = own(ignore);
+    if (ignore == NULL) return GLOBSET_ENULL;
+    return result_of(globset_raw_ignore_set_dfa_size_limit(&owned, bytes));
+}
+
 int globset_ignore_add_file(globset_ignore *ignore, const char *file, size_t length) {
     globset_owned owned = own(ignore);
     struct bytes bytes;

@@ -185,9 +185,8 @@ size_t globset_set_length(const globset_set *set);
 /* Returns whether some glob of the set matches the path. A glob that is read as `**` followed by `/..` matches no path
  * in a set. Any number of threads may ask one set. The call allocates memory if it needs an automaton, so it may end in
  * GLOBSET_ENOMEM. It frees that memory, except for rows of its automata, which the set keeps for later calls until it
- * is freed: at most four caches for each automaton, and for all of them at most the bytes of
- * globset_builder_set_dfa_size_limit. A program whose calls must not fail, or which needs to know which globs match,
- * makes a searcher. */
+ * is freed: at most the bytes of globset_builder_set_dfa_size_limit. A program whose calls must not fail, or which needs
+ * to know which globs match, makes a searcher. */
 GLOBSET_CHECKED int globset_set_is_match(const globset_set *set, const char *path, size_t length);
 
 void globset_set_free(globset_set *set);
@@ -195,9 +194,8 @@ void globset_set_free(globset_set *set);
 /* ---- Searchers ---- */
 
 /* Makes a searcher of a set. It takes all the memory that questions about one path need: eight bytes for each glob,
- * what the automata of the set need to run, and for rows of them up to a quarter of the limit of
- * globset_builder_set_dfa_size_limit, 4 MiB by default, or more than that if automata have hundreds of thousands of
- * states. GLOBSET_ENOMEM. */
+ * what the automata of the set need to run, and for rows of them as many bytes as globset_builder_set_dfa_size_limit
+ * says. GLOBSET_ENOMEM. */
 GLOBSET_CHECKED int globset_searcher_new(const globset_set *set, globset_searcher **searcher);
 
 /* Returns whether some glob of the set matches the path. It does not allocate, and fails only for null and for an
@@ -279,8 +277,13 @@ GLOBSET_CHECKED int globset_builder_new(globset_builder **builder);
 GLOBSET_CHECKED int globset_builder_add(globset_builder *builder, const globset_glob *glob);
 
 /* Sets how many bytes of rows of automata a set may keep, for the sets that the builder makes from then on. 16 MiB is
- * the default. A searcher takes up to a quarter of that for rows. No answer depends on it: with fewer bytes a question
- * may take more time. With 0 there are no rows. */
+ * the default. The rows that a set keeps take at most so many bytes at any time, and so do those of a searcher: an
+ * automaton has the share S = bytes * states / (states of all automata), a cache of rows for it takes at least
+ * L = max(4160, 16 * ((2 * states + 2 * globs + starts + 1) / 3 + 1)) bytes, the set keeps at most N = min(4, S / L)
+ * caches for it, each of at most S / N bytes, a searcher has one of them, and the automaton has none if S is less than L
+ * or than 16 KiB. A cache takes besides at most 1 KiB, and two bits for each state and each glob. The caches of a searcher
+ * take at most 8 MiB together, but each may take L. No answer depends on the limit: with fewer bytes a question may take
+ * more time. With 0 there are no rows. */
 GLOBSET_CHECKED int globset_builder_set_dfa_size_limit(globset_builder *builder, size_t bytes);
 
 /* Makes the set of the builder's globs, in the order of their additions: the first has index 0. Then the builder
@@ -390,6 +393,11 @@ typedef struct globset_told_rule {
 
 /* Makes a walk in its top directory, without files. GLOBSET_EOPTIONS, GLOBSET_ENOMEM. */
 GLOBSET_CHECKED int globset_ignore_new(uint32_t options, globset_ignore **ignore);
+
+/* Sets how many bytes of rows of its automaton an ignore file may keep, for the files that are added from then on. It
+ * means for a file what globset_builder_set_dfa_size_limit means for a set, and has the same default. A file begins with
+ * few rows, and questions take memory for more as they need it; where there is none they go on without. */
+GLOBSET_CHECKED int globset_ignore_set_dfa_size_limit(globset_ignore *ignore, size_t bytes);
 
 /* Adds an ignore file of the directory that the walk is in, by its bytes, which are copied. It takes precedence over the
  * files that are there. A line that git cannot read matches nothing, and is no error. Time and memory are linear in the

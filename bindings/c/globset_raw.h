@@ -154,9 +154,8 @@ globset_status globset_raw_builder_new(globset_owned *out);
  * and then the builder has the globs that it had. */
 globset_status globset_raw_builder_add(globset_owned *builder, globset_lent *glob);
 
-/* Sets how many bytes of rows of automata a set may keep, for the sets that the builder makes from then on. 16 MiB is
- * the default. A searcher takes up to a quarter of that for rows. No answer depends on it: with fewer bytes a question
- * may take more time. With 0 there are no rows. GLOBSET_DONE, GLOBSET_WRONG_KIND. It takes no memory. */
+/* Sets how many bytes of rows of automata a set may keep, for the sets that the builder makes from then on, as
+ * globset_builder_set_dfa_size_limit of globset.h does. GLOBSET_DONE, GLOBSET_WRONG_KIND. It takes no memory. */
 globset_status globset_raw_builder_set_dfa_size_limit(globset_owned *builder, size_t bytes);
 
 /* Makes the set of the builder's globs, in the order in which they were added: the first has index 0. GLOBSET_DONE: the
@@ -188,9 +187,8 @@ globset_status globset_raw_set_matches_plain(globset_lent *set, const uint8_t *p
 
 /* Makes a searcher of a set. It shares what the set matches with, so the set may be freed. It takes the memory that
  * questions about one path need: eight bytes and a bit for each glob, two bits for each state of the largest automaton,
- * and for rows of automata up to a quarter of the limit of globset_raw_builder_set_dfa_size_limit, 4 MiB by default, or
- * more than that if automata have hundreds of thousands of states. GLOBSET_DONE, GLOBSET_WRONG_KIND,
- * GLOBSET_OUT_OF_MEMORY. */
+ * and for rows of automata as many bytes as globset_builder_set_dfa_size_limit of globset.h says. GLOBSET_DONE,
+ * GLOBSET_WRONG_KIND, GLOBSET_OUT_OF_MEMORY. */
 globset_status globset_raw_searcher_new(globset_lent *set, globset_owned *out);
 
 /* Whether some glob of the searcher's set matches the path: GLOBSET_YES or GLOBSET_NO, the same as of
@@ -281,6 +279,10 @@ globset_status globset_raw_answers_lines(globset_owned *answers, globset_indexes
 /* Makes a walk in its top directory, without ignore files. The only bit of options is GLOBSET_IGNORE_CASE.
  * GLOBSET_DONE, GLOBSET_UNKNOWN_OPTION, GLOBSET_OUT_OF_MEMORY. */
 globset_status globset_raw_ignore_new(uint32_t options, globset_owned *out);
+
+/* Sets how many bytes of rows of its automaton an ignore file may keep, for the files that are added from then on, as
+ * globset_ignore_set_dfa_size_limit of globset.h does. GLOBSET_DONE, GLOBSET_WRONG_KIND. It takes no memory. */
+globset_status globset_raw_ignore_set_dfa_size_limit(globset_owned *ignore, size_t bytes);
 
 /* Adds an ignore file of the directory that the walk is in, by its bytes, which are copied. It takes precedence over those
  * that are there. GLOBSET_DONE; GLOBSET_WRONG_KIND and GLOBSET_OUT_OF_MEMORY, and then nothing changed. */

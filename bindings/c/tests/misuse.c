@@ -202,6 +202,7 @@ static void ignores(void) {
     CHECK(globset_ignore_new(0, NULL) == GLOBSET_ENULL);
     CHECK(globset_ignore_new(2, &ignore) == GLOBSET_EOPTIONS && ignore == NULL);
     CHECK(globset_ignore_new(0, &ignore) == GLOBSET_OK);
+    CHECK(globset_ignore_set_dfa_size_limit(NULL, 1) == GLOBSET_ENULL);
     CHECK(globset_ignore_add_file(NULL, "a", 1) == GLOBSET_ENULL);
     CHECK(globset_ignore_add_file(ignore, NULL, 1) == GLOBSET_ENULL);
     CHECK(globset_ignore_enter(NULL, "a", 1) == GLOBSET_ENULL &&
@@ -275,6 +276,7 @@ static void no_ignore(void *object) {
     CHECK(globset_ignore_add_file(ignore, "a", 1) == GLOBSET_EKIND &&
           globset_ignore_enter(ignore, "a", 1) == GLOBSET_EKIND);
     CHECK(globset_ignore_leave(ignore) == GLOBSET_EKIND);
+    CHECK(globset_ignore_set_dfa_size_limit(ignore, 1) == GLOBSET_EKIND);
     CHECK(globset_ignore_is_ignored(ignore, "a", 1, 0, 0, &rule) == GLOBSET_EKIND && rule.file == 0 && rule.line == 0);
     CHECK(globset_ignore_decide_many(ignore, "a", 1, &end, 1, 0, &answer) == GLOBSET_EKIND && answer == 7);
     CHECK(globset_ignore_rules_many(ignore, "a", 1, &end, 1, 0, &told) == GLOBSET_EKIND && told.line == 7);

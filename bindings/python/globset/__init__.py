@@ -200,8 +200,8 @@ class GlobSet(GlobSetBase):
     A set does not change. Sets are equal if they have equal globs in the same order. They can be copied and pickled. A set
     keeps memory for as many calls as were made at the same time, which it takes at the first of them.
 
-    ``dfa_size_limit`` is how many bytes of rows of automata a set may keep, by default 16 MiB. A call takes up to a quarter of
-    that for rows. No answer depends on it: with fewer bytes a question may take more time.
+    ``dfa_size_limit`` limits the bytes of rows of automata, by default to 16 MiB. A call takes as many as the C header
+    ``globset.h`` says of a searcher. No answer depends on it: with fewer bytes a question may take more time.
 
     >>> GlobSet(["*.py", Glob("*.C", case_insensitive=True)]).matches("main.c")
     [1]

@@ -226,7 +226,8 @@ class GlobSetBase:
 
 
 class IgnoreFiles:
-    """The directory that a walk is in, with the ignore files in it and in those above it, and with the bits of their options."""
+    """The directory that a walk is in, with the ignore files in it and in those above it, and with the bits of their options and the limit on
+    the bytes of rows of each, or a negative number for the default."""
 
     __slots__ = ("_object", "_at", "_turn", "_is_lent")
 
@@ -237,11 +238,13 @@ class IgnoreFiles:
     # Whether a call of the thread that has its turn reads what the library lends.
     _is_lent: bool
 
-    def __new__(cls, options: int, /) -> IgnoreFiles:
+    def __new__(cls, options: int, limit: int, /) -> IgnoreFiles:
         self = object.__new__(cls)
         self._object = Object()
         self._at = ctypes.addressof(self._object)
         _library.raise_unless_done(_library.ignore_new(options, self._at))
+        if limit >= 0:
+            _library.raise_unless_done(_library.ignore_set_dfa_size_limit(self._at, limit))
         self._turn = RLock()
         self._is_lent = False
         return self

@@ -8,14 +8,16 @@ struct ignore_files {
 };
 
 static PyObject *ignore_new(PyTypeObject *type, PyObject *arguments, PyObject *keywords) {
-    static char *names[] = {"", NULL};
+    static char *names[] = {"", "", NULL};
     unsigned int options;
-    if (!PyArg_ParseTupleAndKeywords(arguments, keywords, "I:IgnoreFiles", names, &options)) return NULL;
+    Py_ssize_t limit;
+    if (!PyArg_ParseTupleAndKeywords(arguments, keywords, "In:IgnoreFiles", names, &options, &limit)) return NULL;
     struct ignore_files *self = (struct ignore_files *)new_object(type);
     if (!self) return NULL;
     globset_owned ignore;
     self->turn = PyThread_allocate_lock();
     globset_status status = self->turn ? globset_raw_ignore_new(options, &ignore) : GLOBSET_OUT_OF_MEMORY;
+    if (status == GLOBSET_DONE && limit >= 0) (void)globset_raw_ignore_set_dfa_size_limit(&ignore, (size_t)limit);
     if (status == GLOBSET_DONE) {
         self->ignore = ignore;
         return (PyObject *)self;

@@ -131,8 +131,9 @@ class _Decides:
 class IgnoreRules(_Decides):
     """One ignore file, in the directory from which paths are given.
 
-    ``ignore_case`` compares ASCII letters without regard to case, as git does under ``core.ignoreCase``. Raises ``ValueError``
-    if one of several lines has a line feed before its end.
+    ``ignore_case`` compares ASCII letters without regard to case, as git does under ``core.ignoreCase``. ``dfa_size_limit`` is
+    how many bytes of rows of its automaton the file may keep, as that of ``GlobSet`` is for a set. Raises ``ValueError`` if one
+    of several lines has a line feed before its end, or the limit is negative.
 
     Rules do not change. They are equal if their files have the same bytes, with line feeds between lines, and ``ignore_case`` is
     the same. They can be copied and pickled. They keep the bytes of the file, and memory for the calls.
@@ -144,16 +145,20 @@ class IgnoreRules(_Decides):
     True
     """
 
-    __slots__ = ("_file", "_ignore_case", "__weakref__")
+    __slots__ = ("_file", "_ignore_case", "_limit", "__weakref__")
 
     _file: bytes
     _ignore_case: bool
+    _limit: Optional[int]
 
-    def __new__(cls: Type[_AnyRules], lines: _Lines, *, ignore_case: bool = False) -> _AnyRules:
+    def __new__(
+        cls: Type[_AnyRules], lines: _Lines, *, ignore_case: bool = False, dfa_size_limit: Optional[int] = None
+    ) -> _AnyRules:
         self = super().__new__(cls)
         self._file = _file_of(lines)
         self._ignore_case = bool(ignore_case)
-        files = _files_with(ignore_case)
+        self._limit = limit_of(dfa_size_limit)
+        files = _files_with(ignore_case, self._limit)
         files.add_file(self._file)
         self._files = files
         return self
@@ -188,10 +193,11 @@ class IgnoreRules(_Decides):
 
     def __repr__(self) -> str:
         case = ", ignore_case=True" if self._ignore_case else ""
-        return f"{type(self).__name__}({self._file!r}{case})"
+        limit = "" if self._limit is None else f", dfa_size_limit={self._limit}"
+        return f"{type(self).__name__}({self._file!r}{case}{limit})"
 
     def __reduce__(self) -> Tuple[Any, ...]:
-        return _make_rules, (type(self), self._file, self._ignore_case)
+        return _make_rules, (type(self), self._file, self._ignore_case, self._limit)
 
     def __copy__(self: _AnyRules) -> _AnyRules:
         return self
@@ -204,7 +210,7 @@ class IgnoreStack(_Decides):
     """The ignore files of nested directories: those of the directory that a walk is in, and of the directories above it.
 
     A walk begins in its top directory, without files. Paths are relative to the directory that it is in. ``ignore_case`` is as
-    that of ``IgnoreRules``.
+    that of ``IgnoreRules``, and so is ``dfa_size_limit``, for each file.
 
     The object changes. It cannot be copied or pickled: this raises ``TypeError``.
 
@@ -221,9 +227,11 @@ class IgnoreStack(_Decides):
 
     __slots__ = ("__weakref__",)
 
-    def __new__(cls: Type[_AnyStack], *, ignore_case: bool = False) -> _AnyStack:
+    def __new__(
+        cls: Type[_AnyStack], *, ignore_case: bool = False, dfa_size_limit: Optional[int] = None
+    ) -> _AnyStack:
         self = super().__new__(cls)
-        self._files = _files_with(ignore_case)
+        self._files = _files_with(ignore_case, limit_of(dfa_size_limit))
         return self
 
     def add_file(self, lines: _Lines) -> None:
@@ -275,8 +283,16 @@ class IgnoreStack(_Decides):
         raise TypeError(f"{type(self).__name__} cannot be copied or pickled")
 
 
-def _files_with(ignore_case: bool) -> _binding.IgnoreFiles:
-    return _binding.IgnoreFiles(_IGNORE_CASE if ignore_case else 0)
+def limit_of(dfa_size_limit: Optional[int]) -> Optional[int]:
+    """Returns a limit on the bytes of rows as a number, or ``None`` if there is none."""
+    limit = None if dfa_size_limit is None else operator.index(dfa_size_limit)
+    if limit is not None and limit < 0:
+        raise ValueError("a limit is not negative")
+    return limit
+
+
+def _files_with(ignore_case: bool, limit: Optional[int]) -> _binding.IgnoreFiles:
+    return _binding.IgnoreFiles(_IGNORE_CASE if ignore_case else 0, -1 if limit is None else min(limit, sys.maxsize))
 
 
 def _decision_of(decided: Optional[Tuple[bool, int, int]]) -> Optional[Decision]:
@@ -331,6 +347,8 @@ def _bytes_of(text: Union[str, bytes]) -> bytes:
     return str.encode(text, "utf-8", "surrogateescape") if isinstance(text, str) else bytes.__getitem__(text, slice(None))
 
 
-def _make_rules(kind: Type[_AnyRules], file: bytes, ignore_case: bool) -> _AnyRules:
+def _make_rules(kind: Type[_AnyRules], file: bytes, ignore_case: bool, limit: Optional[int] = None) -> _AnyRules:
     """Makes rules again from what ``pickle`` has of them."""
-    return kind(file, ignore_case=ignore_case)
+    if limit is None:
+        return kind(file, ignore_case=ignore_case)
+    return kind(file, ignore_case=ignore_case, dfa_size_limit=limit)

@@ -155,7 +155,7 @@ class Misuse:
         elif self.chance(0.5):
             globset._binding.IgnoreFiles(*[self.path() for _ in range(self.rng.randrange(3))])
         else:
-            files = globset._binding.IgnoreFiles(self.rng.randrange(3))
+            files = globset._binding.IgnoreFiles(self.rng.randrange(3), self.rng.randrange(-1, 1 << 20))
             arguments = [self.path() for _ in range(self.rng.randrange(4))]
             names = ["add_file", "enter", "decide", "decide_many", "rules_many", "filter", "unread_lines", "line_text"]
             names.append("unreachable")

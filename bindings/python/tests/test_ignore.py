@@ -146,6 +146,23 @@ class Rules(unittest.TestCase):
         stack.add_file("A")
         self.assertTrue(stack.is_ignored("a"))
 
+    def test_dfa_size_limit(self):
+        lines = [f"*{one}*{other}*" for one in "abc" for other in "def"]
+        paths = ["a-e", "bcd", "", "cabf", "x" * 50 + "ad"]
+        expected = IgnoreRules(lines).decide_many(paths)
+        for limit in [0, 1, 5000, 2**40, 2**80]:
+            made = IgnoreRules(lines, dfa_size_limit=limit)
+            self.assertEqual(made.decide_many(paths), expected)
+            self.assertEqual(made, IgnoreRules(lines))
+            self.assertEqual(repr(made)[-len(f", dfa_size_limit={limit})") :], f", dfa_size_limit={limit})")
+            self.assertEqual(repr(pickle.loads(pickle.dumps(made))), repr(made))
+            walk = IgnoreStack(dfa_size_limit=limit)
+            walk.add_file(lines)
+            self.assertEqual(walk.decide_many(paths), expected)
+        for make in [lambda limit: IgnoreRules("a", dfa_size_limit=limit), lambda limit: IgnoreStack(dfa_size_limit=limit)]:
+            self.assertRaises(ValueError, make, -1)
+            self.assertRaises(TypeError, make, "a")
+
     def test_unread_lines(self):
         self.assertEqual(IgnoreRules(["[a", "a", "", "# [", "b\\", "!["]).unread_lines(), [1, 5, 6])
         self.assertEqual(IgnoreRules("").unread_lines(), [])
@@ -233,10 +250,12 @@ class Stack(unittest.TestCase):
         for call in [copy.copy, copy.deepcopy, pickle.dumps]:
             with self.assertRaisesRegex(TypeError, "^IgnoreStack cannot be copied or pickled$"):
                 call(stack)
-        self.assertRaises((TypeError, ValueError), pickle.dumps, globset._binding.IgnoreFiles(0))
+        self.assertRaises((TypeError, ValueError), pickle.dumps, globset._binding.IgnoreFiles(0, -1))
 
     def test_base_class(self):
-        files = globset._binding.IgnoreFiles
+        def files(*options):
+            return globset._binding.IgnoreFiles(*options, -1)
+
         for call in [lambda: files(2), lambda: files(0).decide("a", 0, 3), lambda: files(0).decide_many(["a"], 3)]:
             self.assertRaises(RuntimeError, call)
         self.assertRaises(RuntimeError, files(0).rules_many, ["a"], 3)
@@ -255,6 +274,7 @@ class Stack(unittest.TestCase):
         stack.add_file("a")
         for name, call in [
             ("ignore_new", IgnoreStack),
+            ("ignore_set_dfa_size_limit", lambda: IgnoreStack(dfa_size_limit=0)),
             ("ignore_add_file", lambda: stack.add_file("b")),
             ("ignore_enter", lambda: stack.enter("b")),
             ("ignore_leave", stack.leave),

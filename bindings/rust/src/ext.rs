@@ -22,7 +22,8 @@ pub fn offset(error: &Error) -> usize {
 }
 
 /// Makes the set of a builder's globs, as [`GlobSetBuilder::build`] does. The set keeps at most `dfa_size_limit` bytes of rows
-/// of automata. A thread that matches with it takes up to a quarter of that. It is an addition to the crate globset.
+/// of automata. A thread that matches with it takes as many as `globset_builder_set_dfa_size_limit` in `globset.h`, the header for
+/// C, says of a searcher. It is an addition to the crate globset.
 ///
 /// No answer depends on the limit. With fewer bytes a call may take more time. With 0 there are no rows.
 /// [`GlobSetBuilder::build`] allows 16 MiB.

@@ -111,6 +111,22 @@ impl IgnoreStack {
         IgnoreStack::of(Ignore::new(IGNORE_CASE))
     }
 
+    /// Sets how many bytes of rows, the cached states of its automaton, an ignore file keeps at most, for files that are added
+    /// later. The default is that of sets, 16 MiB. A file begins with few rows, and gets more as paths need them. No answer
+    /// depends on it.
+    ///
+    /// ```rust
+    /// use globset::ignore::{By, IgnoreStack};
+    ///
+    /// let mut ignore = IgnoreStack::new();
+    /// ignore.set_dfa_size_limit(0);
+    /// ignore.add_file("*.o\n");
+    /// assert!(ignore.is_ignored("a.o", false, By::Git));
+    /// ```
+    pub fn set_dfa_size_limit(&mut self, bytes: usize) {
+        self.ignore.set_dfa_size_limit(bytes);
+    }
+
     fn of(ignore: Ignore) -> IgnoreStack {
         IgnoreStack { ignore, files: vec![0] }
     }

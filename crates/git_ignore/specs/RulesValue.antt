@@ -3,6 +3,11 @@ use Rattle.std.specs.Prelude.{ℕ, ◌≤◌, Bool, List, Option}
 use Rattle.git_ignore.specs.Rules.{deciding_rule}
 use Rattle.git_ignore.specs.declared.decision.DecidingRule.{DecidingRule}
 
+-- Options are seen as whether case is ignored, and as the most bytes of rows of a file, which have no effect on a decision.
+pub record OptionsValue : Type 0 where
+  pub ignore_case : Bool
+  pub dfa_size_limit : ℕ
+
 -- Rules are seen as the bytes of their file, whether case is ignored, and two numbers, which say how much memory deciding takes:
 -- of the states of their automaton, and of the rules.
 pub record RulesValue : Type 0 where

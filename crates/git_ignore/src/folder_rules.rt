@@ -10,6 +10,7 @@ use crate::decision::DecidingRule;
 use crate::path_rule::PathRule;
 use crate::rules::Rules;
 use crate::scratch::IgnoreScratch;
+use crate::stored::Memory;
 use crate::two_rules::DecidesAlone;
 use std::alloc::{AllocError, Global};
 
@@ -22,12 +23,13 @@ pub struct FolderRules {
 }
 
 impl FolderRules {
-    /// Reads an ignore file of a folder, and makes the scratch fit its rules.
+    /// Reads an ignore file of a folder, and makes the scratch fit its rules. Calls keep rows of at most `dfa_size_limit` bytes.
     pub fn new(
         alloc: Global,
         folder: &[u8],
         file: &[u8],
         ignore_case: bool,
+        dfa_size_limit: usize,
         scratch: &mut IgnoreScratch,
     ) -> Result<FolderRules, AllocError>
         ensures file { IfOk result
@@ -36,11 +38,9 @@ impl FolderRules {
         ensures fits { IfOk result (λ r. FitsRules scratch.new r.rules) }
         ensures others { FitsAsBefore scratch.old scratch.new }
     {
-        let rules = Rules::read(alloc, file, ignore_case)?;
+        let rules = Rules::read(alloc, file, ignore_case, Memory::by_need(dfa_size_limit))?;
         let folder = folder.to_vec(alloc)?;
-        scratch.fit(&rules)?;
-        // Also where the scratch had room for it before, or the file's automaton would be stepped.
-        rules.stored.keep_cache();
+        scratch.reserve(&rules)?;
         Ok(FolderRules { folder, rules })
     }
 

@@ -11,8 +11,9 @@ use crate::decision::{DecideBy, DecidingRule, Decision, decision_of};
 use crate::path_rule::PathRule;
 use crate::reading::FileRules;
 use crate::scratch::IgnoreScratch;
-use crate::stored::StoredRules;
+use crate::stored::{Memory, StoredRules};
 use crate::two_rules::{DecidesAlone, deciding};
+use glob_matching::DEFAULT_DFA_SIZE_LIMIT;
 use std::alloc::{AllocError, Global};
 use std::marker::Model;
 use std::sync::Arc;
@@ -58,17 +59,22 @@ impl Rules {
         ensures file { IfOk result (λ r. r.file ≡ file.now) }
         ensures ignore_case { IfOk result (λ r. r.ignore_case ≡ false) }
     {
-        Rules::read(alloc, file, false)
+        Rules::read(alloc, file, false, Memory::at_once(DEFAULT_DFA_SIZE_LIMIT))
     }
 
     /// Reads an ignore file, whose rules ignore case or not.
-    pub(crate) fn read(alloc: Global, file: &[u8], ignore_case: bool) -> Result<Rules, AllocError>
+    pub(crate) fn read(
+        alloc: Global,
+        file: &[u8],
+        ignore_case: bool,
+        memory: Memory,
+    ) -> Result<Rules, AllocError>
         ensures file { IfOk result (λ r. r.file ≡ file.now) }
         ensures ignore_case { IfOk result (λ r. r.ignore_case ≡ ignore_case) }
     {
         let read = FileRules::read(alloc, file)?;
         let entries = read.entries;
-        let stored = StoredRules::new(alloc, &read.patterns, entries, file, ignore_case)?;
+        let stored = StoredRules::new(alloc, &read.patterns, entries, file, ignore_case, memory)?;
         Ok(Rules {
             stored: Arc::new(alloc, stored)?,
             unread: read.unread,

@@ -91,6 +91,22 @@ impl IgnoreScratch {
         ensures kept { OnErr result (self.new ≡ self.old) }
         ensures succeeds_if_fits { FitsRules self.old rules.now → IsOk result }
     {
+        // What fitted before takes no memory, for rows either.
+        let lacks_room = !self.fits(rules);
+        self.reserve(rules)?;
+        if lacks_room {
+            rules.stored.keep_cache();
+        }
+        Ok(())
+    }
+
+    /// Like [`IgnoreScratch::fit`], but the rules get no memory for rows.
+    pub(crate) fn reserve(&mut self, rules: &Rules) -> Result<(), AllocError>
+        ensures fits { OnOk result (FitsRules self.new rules.now) }
+        ensures others { FitsAsBefore self.old self.new }
+        ensures kept { OnErr result (self.new ≡ self.old) }
+        ensures succeeds_if_fits { FitsRules self.old rules.now → IsOk result }
+    {
         let states = self.states.max(rules.stored.state_count());
         let count = self.rules.max(rules.stored.rule_count());
         self.sets.reserve(states)?;
@@ -99,10 +115,6 @@ impl IgnoreScratch {
                 return Err(AllocError);
             };
             self.found.reserve(indexes)?;
-        }
-        // What fitted before takes no memory, for rows either.
-        if states > self.states || count > self.rules {
-            rules.stored.keep_cache();
         }
         self.states = states;
         self.rules = count;

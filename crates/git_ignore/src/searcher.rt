@@ -51,15 +51,16 @@ impl Model for RulesSearcher {
 }
 
 impl RulesSearcher {
-    /// Returns a searcher of the rules, which shares them. It takes as much memory as an [`IgnoreScratch`], and for rows up to
-    /// 4 MiB; more only if the automaton has so many states that no row would fit.
+    /// Returns a searcher of the rules, which shares them. It takes as much memory as an [`IgnoreScratch`], and for rows up to a
+    /// quarter of the limit that [`RulesBuilder::dfa_size_limit`](crate::RulesBuilder::dfa_size_limit) sets.
     ///
     /// Fails only if memory runs out or 2^63 searchers share the rules.
     pub fn new(alloc: Global, rules: &Rules) -> Result<RulesSearcher, AllocError>
         ensures { IfOk result (λ s. s ≡ rules.now) }
     {
         let stored = Arc::try_clone(&rules.stored)?;
-        let scratch = IgnoreScratch::new(alloc, rules)?;
+        let mut scratch = IgnoreScratch::empty(alloc);
+        scratch.reserve(rules)?;
         let cache = stored.new_cache(alloc)?;
         Ok(RulesSearcher {
             stored,

@@ -13,6 +13,7 @@ use crate::folder_rules::FolderRules;
 use crate::rules::Rules;
 use crate::scratch::IgnoreScratch;
 use crate::two_rules::deciding;
+use glob_matching::DEFAULT_DFA_SIZE_LIMIT;
 use std::alloc::{AllocError, Global};
 use std::marker::Model;
 
@@ -59,6 +60,7 @@ pub struct IgnoreStack {
     levels: Vec<FolderLevel>,
     scratch: IgnoreScratch,
     ignore_case: bool,
+    dfa_size_limit: usize,
 }
 
 impl Model for IgnoreStack {
@@ -83,6 +85,7 @@ impl Drop for IgnoreStack {
             levels: _,
             scratch: _,
             ignore_case: _,
+            dfa_size_limit: _,
         } = self;
     }
 }
@@ -93,11 +96,15 @@ impl IgnoreStack {
     pub fn new(alloc: Global) -> IgnoreStack
         ensures { result ≡ at_top false }
     {
-        IgnoreStack::with_case(alloc, false)
+        IgnoreStack::with_options(alloc, false, DEFAULT_DFA_SIZE_LIMIT)
     }
 
-    /// Returns a walk whose rules ignore case or not.
-    pub(crate) fn with_case(alloc: Global, ignore_case: bool) -> IgnoreStack
+    /// Returns a walk whose rules ignore case or not, and each of whose files keeps rows of at most `dfa_size_limit` bytes.
+    pub(crate) fn with_options(
+        alloc: Global,
+        ignore_case: bool,
+        dfa_size_limit: usize,
+    ) -> IgnoreStack
         ensures { result ≡ at_top ignore_case }
     {
         IgnoreStack {
@@ -108,7 +115,15 @@ impl IgnoreStack {
             levels: Vec::new(alloc),
             scratch: IgnoreScratch::empty(alloc),
             ignore_case,
+            dfa_size_limit,
         }
+    }
+
+    /// Sets the limit of [`crate::RulesBuilder::dfa_size_limit`] for files that are added from now on.
+    pub fn set_dfa_size_limit(&mut self, bytes: usize)
+        ensures { self.new ≡ self.old }
+    {
+        self.dfa_size_limit = bytes;
     }
 
     /// Returns the path of the folder that the walk is in, from the top folder on: empty for this, and otherwise with `/` at its
@@ -131,9 +146,9 @@ impl IgnoreStack {
     /// Reads an ignore file of the folder that the walk is in, given by its bytes. It takes precedence over the files that are
     /// there already.
     ///
-    /// The call takes time and memory as [`crate::Rules::new`] does, and copies the path of the folder. It also reserves up to 4 MiB
-    /// for the rows of the file, or more for a file of hundreds of thousands of states, unless there is too little memory for that.
-    /// The walk frees all this when it leaves the folder.
+    /// The call takes time and memory as [`crate::Rules::new`] does, and copies the path of the folder. Calls that decide take memory
+    /// for the rows of the file as they need it, up to the limit of [`crate::RulesBuilder::dfa_size_limit`], and go on without where
+    /// there is none. The walk frees all this when it leaves the folder.
     ///
     /// After an error nothing has changed.
     pub fn add_file(&mut self, file: &[u8]) -> Result<(), AllocError>
@@ -145,6 +160,7 @@ impl IgnoreStack {
             &self.folder,
             file,
             self.ignore_case,
+            self.dfa_size_limit,
             &mut self.scratch,
         )?;
         self.files.push(rules)?;

@@ -13,11 +13,38 @@ use crate::path_rule::PathRule;
 use crate::reading::{after_mark, line_at};
 use crate::scratch::IgnoreScratch;
 use bit_sets::Visits;
-use engine::{Compiled, DEFAULT_DFA_SIZE_LIMIT};
+use engine::Compiled;
 use ignore_pattern::{IgnorePattern, automaton_of, line_text};
 use lazy_dfa::Cache;
 use std::alloc::{AllocError, Global};
 use std::marker::Model;
+
+/// How much memory rows may take, and when.
+#[derive(Clone, Copy)]
+pub struct Memory {
+    /// The most bytes that are kept between calls.
+    limit: usize,
+    /// Whether calls that decide take it as they need it, and not those before them at once.
+    by_need: bool,
+}
+
+impl Memory {
+    /// Returns that memory is taken before calls that decide.
+    pub fn at_once(limit: usize) -> Memory {
+        Memory {
+            limit,
+            by_need: false,
+        }
+    }
+
+    /// Returns that calls that decide take memory.
+    pub fn by_need(limit: usize) -> Memory {
+        Memory {
+            limit,
+            by_need: true,
+        }
+    }
+}
 
 /// The rules of an ignore file. A searcher of the rules has them, too, and memory of its own.
 #[derive(Drop)]
@@ -55,6 +82,7 @@ impl StoredRules {
         entries: Vec<RuleEntry>,
         file: &[u8],
         ignore_case: bool,
+        memory: Memory,
     ) -> Result<StoredRules, AllocError>
         requires { ArePartsOf (rules_of file.now) patterns.now entries.items }
         ensures file { IfOk result (λ r. r.file ≡ file.now) }
@@ -62,7 +90,8 @@ impl StoredRules {
     {
         let automaton = automaton_of(alloc, patterns, ignore_case)?;
         let states = automaton.state_count();
-        let automaton = Compiled::new(alloc, DEFAULT_DFA_SIZE_LIMIT, automaton, states)?;
+        let automaton = Compiled::new(alloc, memory.limit, automaton, states)?;
+        let automaton = automaton.growing(memory.by_need);
         let file = file.to_vec(alloc)?;
         Ok(StoredRules {
             automaton,

@@ -31,6 +31,25 @@ pub extern "C" fn globset_raw_ignore_new(alloc: Global, options: u32, out: &mut 
     hand_out(alloc, Object::Ignore(builder.build_stack(alloc)), out)
 }
 
+/// Sets the limit on the bytes of rows that an ignore file keeps between calls, for files that are added later.
+#[unsafe(no_mangle)]
+pub extern "C" fn globset_raw_ignore_set_dfa_size_limit(ignore: &mut Owned, bytes: usize) -> Status
+    requires owned { IsSome ignore.old.object }
+    // The limit changes no answer, and contracts do not see it: it is no part of what a walk is.
+    ensures same_files { ignore.new.object ≡ ignore.old.object }
+    ensures right_kind { IsIgnore ignore.old.object → result ≡ DONE }
+    ensures other_kind { result ≡ DONE → IsIgnore ignore.old.object }
+    ensures statuses { IsOneOf (DONE ∷ WRONG_KIND ∷ []) result }
+{
+    match ignore.as_mut() {
+        Object::Ignore(stack) => {
+            stack.set_dfa_size_limit(bytes);
+            DONE
+        }
+        _ => WRONG_KIND,
+    }
+}
+
 /// Adds an ignore file of the folder that a walk is in.
 #[unsafe(no_mangle)]
 pub extern "C" fn globset_raw_ignore_add_file(ignore: &mut Owned, file: &[u8]) -> Status

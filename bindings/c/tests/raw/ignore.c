@@ -5,6 +5,7 @@
 static raw_ignore ignore_of(const char *file, uint32_t options) {
     raw_ignore ignore;
     CHECK(raw_ignore_new(options, &ignore) == GLOBSET_DONE);
+    CHECK(raw_ignore_set_dfa_size_limit(&ignore, 1 << 20) == GLOBSET_DONE);
     CHECK(raw_ignore_add_file(&ignore, TEXT(file)) == GLOBSET_DONE);
     return ignore;
 }
@@ -201,6 +202,7 @@ static void refused(void) {
         CHECK(decides(&ignore, "a", 0, by, GLOBSET_UNKNOWN_OPTION, 7, 7));
     }
     CHECK(decides(&glob_as_ignore, "a", 0, 0, GLOBSET_WRONG_KIND, 7, 7));
+    CHECK(raw_ignore_set_dfa_size_limit(&glob_as_ignore, 0) == GLOBSET_WRONG_KIND);
     CHECK(raw_ignore_add_file(&glob_as_ignore, TEXT("a")) == GLOBSET_WRONG_KIND);
     CHECK(raw_ignore_enter(&glob_as_ignore, TEXT("a")) == GLOBSET_WRONG_KIND);
     CHECK(raw_ignore_leave(&glob_as_ignore) == GLOBSET_WRONG_KIND);

@@ -237,6 +237,10 @@ static inline globset_status raw_ignore_new(uint32_t options, raw_ignore *out) {
 
 static inline void raw_ignore_free(raw_ignore ignore) { globset_raw_free(ignore.object); }
 
+static inline globset_status raw_ignore_set_dfa_size_limit(raw_ignore *ignore, size_t bytes) {
+    return globset_raw_ignore_set_dfa_size_limit(&ignore->object, bytes);
+}
+
 static inline globset_status raw_ignore_add_file(raw_ignore *ignore, const void *file, size_t file_len) {
     return globset_raw_ignore_add_file(&ignore->object, raw_bytes(file), file_len);
 }

@@ -16,6 +16,7 @@ const BELOW_IGNORED: Status = 12;
 
 extern "C" {
     fn globset_raw_ignore_new(options: u32, out: *mut Owned) -> Status;
+    fn globset_raw_ignore_set_dfa_size_limit(ignore: *mut Owned, bytes: usize) -> Status;
     fn globset_raw_ignore_add_file(ignore: *mut Owned, file: *const u8, file_len: usize) -> Status;
     fn globset_raw_ignore_enter(ignore: *mut Owned, name: *const u8, name_len: usize) -> Status;
     fn globset_raw_ignore_leave(ignore: *mut Owned) -> Status;
@@ -92,6 +93,11 @@ impl Ignore {
     pub(crate) fn new(options: u32) -> Ignore {
         // SAFETY: "Makes a walk in its top directory, without ignore files."
         Ignore(Owned::made(|out| unsafe { globset_raw_ignore_new(options, out) }))
+    }
+
+    pub(crate) fn set_dfa_size_limit(&mut self, bytes: usize) {
+        // SAFETY: "Sets how many bytes of rows of its automaton an ignore file may keep".
+        done(unsafe { globset_raw_ignore_set_dfa_size_limit(&mut self.0, bytes) })
     }
 
     pub(crate) fn add_file(&mut self, file: &[u8]) {
