@@ -71,7 +71,8 @@ static globset_set *set_with(size_t globs, size_t limit, size_t *states) {
 
 /* A path that leads to many rows. */
 static void path_of(size_t number, char *path, size_t size) {
-    snprintf(path, size, "src%zu/a%zu/xa%zuy/%zu.b%zu", number % 7, number * 31 % 997, number * 17 % 89, number, number % 5);
+    snprintf(path, size, "src%zu/a%zu/xa%zuy/%zu.b%zu", number % 7, number * 31 % 997, number * 17 % 89, number,
+             number % 5);
 }
 
 /* What a cache takes besides its rows. */

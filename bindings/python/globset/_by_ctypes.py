@@ -226,8 +226,10 @@ class GlobSetBase:
 
 
 class IgnoreFiles:
-    """The directory that a walk is in, with the ignore files in it and in those above it, and with the bits of their options and the limit on
-    the bytes of rows of each, or a negative number for the default."""
+    """The directory that a walk is in, with the ignore files in it and in those above it.
+
+    It is made of the bits of their options, and of the limit on the bytes of rows of each, or a negative number for the default.
+    """
 
     __slots__ = ("_object", "_at", "_turn", "_is_lent")
 

@@ -6,7 +6,7 @@ ghost use Rattle.git_ignore.specs.StackValue.{at_top};
 use crate::rules::Rules;
 use crate::stack::IgnoreStack;
 use crate::stored::Memory;
-use glob_matching::DEFAULT_DFA_SIZE_LIMIT;
+use engine::DEFAULT_DFA_SIZE_LIMIT;
 use std::alloc::{AllocError, Global};
 use std::marker::Model;
 

@@ -13,7 +13,7 @@ use crate::reading::FileRules;
 use crate::scratch::IgnoreScratch;
 use crate::stored::{Memory, StoredRules};
 use crate::two_rules::{DecidesAlone, deciding};
-use glob_matching::DEFAULT_DFA_SIZE_LIMIT;
+use engine::DEFAULT_DFA_SIZE_LIMIT;
 use std::alloc::{AllocError, Global};
 use std::marker::Model;
 use std::sync::Arc;

@@ -13,7 +13,7 @@ use crate::folder_rules::FolderRules;
 use crate::rules::Rules;
 use crate::scratch::IgnoreScratch;
 use crate::two_rules::deciding;
-use glob_matching::DEFAULT_DFA_SIZE_LIMIT;
+use engine::DEFAULT_DFA_SIZE_LIMIT;
 use std::alloc::{AllocError, Global};
 use std::marker::Model;
 

@@ -1,6 +1,7 @@
 //! Matchers of a glob.
 
 ghost use Rattle.std.specs.Prelude.{◌≡◌, ◌+◌, ◌≤◌, ◌↔◌, IfOk, IsOk, IsOkUnless, IsTrue, IfSome};
+ghost use Rattle.bit_sets.specs.Texts.{AllBytes};
 ghost use Rattle.byte_nfa.specs.Sets.{sets_capacity};
 ghost use Rattle.globset_glob.specs.ScratchValue.{FitsMatcher};
 ghost use Rattle.glob_text.specs.Errors.{out_of_memory};
@@ -386,7 +387,7 @@ impl Strategy {
                 Ok(key.matches(path))
             }
             Strategy::Automaton(automaton) => {
-                automaton.is_match(path.path(), sets, cache, visits)
+                automaton.is_match(bytes_of(path.path()), sets, cache, visits)
             }
         }
     }
@@ -422,7 +423,7 @@ impl Strategy {
                 Ok(key.can_match_below(folder.path()))
             }
             Strategy::Automaton(automaton) => {
-                automaton.can_match_after(folder.path(), b'/', sets, cache, visits)
+                automaton.can_match_after(bytes_of(folder.path()), b'/', sets, cache, visits)
             }
         }
     }
@@ -600,4 +601,13 @@ impl fmt::Debug for MatcherSearcher {
             .field("bytes", &self.bytes())
             .finish()
     }
+}
+
+/// Returns a text itself. The checker knows of a parameter that its elements are bytes, and the contract tells it to the caller.
+#[inline(always)]
+fn bytes_of(text: &[u8]) -> &[u8]
+    ensures same { result.now ≡ text.now }
+    ensures bytes { AllBytes text.now }
+{
+    text
 }

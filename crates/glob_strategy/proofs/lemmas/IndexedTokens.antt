@@ -1,5 +1,5 @@
 -- Tokens that share an automaton.
-use Rattle.std.proofs.Common.{◌≡◌, ℕ, ◌≤◌, ◌⊎◌, inl, inr, true, false, ◌||◌, List, [], ◌∷◌, ◌++◌, length, slice_index, refl, ap, sym, ◌∙◌, subst, arith}
+use Rattle.std.proofs.Common.{◌≡◌, ℕ, ◌<◌, ◌≤◌, ◌⊎◌, inl, inr, true, false, ◌||◌, List, [], ◌∷◌, ◌++◌, length, slice_index, refl, ap, sym, ◌∙◌, subst, arith}
 use Rattle.std.specs.Prelude.{◌↔◌, Result, Ok, Err, OnErr}
 use Rattle.std.proofs.Math.Logic.{⊎_elim}
 use Rattle.glob_syntax.specs.declared.options.Options.{Options}
@@ -15,8 +15,7 @@ use Rattle.byte_nfa.specs.Leading.{is_any_byte}
 use Rattle.bit_sets.specs.Bytes.{IsSetOf}
 use Rattle.glob_strategy.specs.inner.Building.{Builds, BuildsWhole}
 use Rattle.bit_sets.specs.Texts.{AllBytes}
-use Rattle.bit_sets.proofs.lemmas.Texts.{all_bytes}
-use Rattle.byte_nfa.proofs.lemmas.After.{both_bytes}
+use Rattle.bit_sets.proofs.lemmas.Texts.{all_bytes, both_bytes}
 use Rattle.glob_path.specs.Below.{folder_start}
 use Rattle.glob_strategy.specs.IndexedTokens.{IndexedTokens, indexed, Matches, SomeMatches, SomeMeanAfter, IsFor}
 use Rattle.bit_sets.proofs.lemmas.Booleans.{or_first}

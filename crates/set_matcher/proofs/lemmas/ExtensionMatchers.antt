@@ -345,6 +345,6 @@ module _ (nfas : List NfaValue) (i : ℕ) (m : NfaValue) (lt : i < length nfas) 
   is_at = is ∙ any_default nfas i m (no_nfa 0) lt
 
   -- none of the automata so far, and not this one
-  pub none_limit : {P : NfaValue → Type 0} → ((s : ℕ) → s < i → P (get_or nfas s (no_nfa 0)) → ⊥) → (P m → ⊥) → (s : ℕ) → s < i + 1 → P (get_or nfas s (no_nfa 0)) → ⊥
-  none_limit {P = P} before this s at some =
+  pub none_limit : (P : NfaValue → Type 0) → ((s : ℕ) → s < i → P (get_or nfas s (no_nfa 0)) → ⊥) → (P m → ⊥) → (s : ℕ) → s < i + 1 → P (get_or nfas s (no_nfa 0)) → ⊥
+  none_limit P before this s at some =
       ⊎_elim {C = ⊥} (λ same. this (subst P (ap (λ t. get_or nfas t (no_nfa 0)) same ∙ sym is_at) some)) (λ other. before s (omega (arith, at, other)) some) (equal_or_not s i)

@@ -1,5 +1,5 @@
 use Rattle.std.specs.Prelude.{◌↔◌, Option, IfOk, IfSome, IsTrue}
-use Rattle.std.proofs.Common.{sym, ℕ, ◌≡◌, ◌∙◌, false, ◌+◌, ◌*◌, ◌≤◌, length, ap, arith, subst}
+use Rattle.std.proofs.Common.{ℕ, ◌≡◌, ◌∙◌, ◌+◌, ◌*◌, ◌≤◌, length, ap, arith, subst}
 use Rattle.byte_nfa.specs.Runs.{size}
 use Rattle.byte_nfa.specs.Steps.{NfaValue, IsReached}
 use Rattle.byte_nfa.specs.SimulationValue.{SimulationValue}

@@ -2,7 +2,7 @@ use Rattle.std.proofs.Common.{[], inl, inr, IsTrue, refl, ap, sym, subst, ◌∙
 use Rattle.std.specs.Prelude.{◌↔◌}
 use Rattle.std.proofs.lemmas.Result.{IfOk-weaker}
 use Rattle.glob_strategy.proofs.lemmas.IndexedTokens.{after_matches, start_bytes}
-use Rattle.glob_strategy.proofs.lemmas.TokenMeaning.{iff_trans}
+use Rattle.bit_sets.proofs.lemmas.Booleans.{iff_trans}
 use Rattle.glob_path.specs.Below.{folder_start}
 use Rattle.set_matcher.specs.inner.Automata.{AutomataParts, AreForLists, AreFoundBelow, SomeLeadsAfter, TokenLists, total_reads}
 use Rattle.set_matcher.proofs.lemmas.Below.{last_of_three, max_within, slots_after}

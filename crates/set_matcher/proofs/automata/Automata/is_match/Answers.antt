@@ -7,7 +7,7 @@ use Rattle.glob_strategy.specs.IndexedTokens.{IsFor}
 use Rattle.glob_strategy.proofs.lemmas.IndexedTokens.{has_matches, reached_matches}
 use Rattle.glob_path.specs.PathParts.{component_extension, last_component}
 use Rattle.set_matcher.specs.inner.Automata.{AutomataParts, TokenLists, AreForLists, AreFound, before_extension, nfa_at, nfa_under, tokens_under}
-use Rattle.glob_strategy.proofs.lemmas.TokenMeaning.{iff_trans}
+use Rattle.bit_sets.proofs.lemmas.Booleans.{iff_trans}
 use Rattle.set_matcher.proofs.lemmas.Automata.{before_bytes, component_bytes, last_run}
 use Rattle.set_matcher.proofs.lemmas.Slots.{nfa_by_slot, tokens_by_slot}
 use Rattle.set_matcher.proofs.lemmas.Visits.{three_runs, two_runs}

@@ -17,7 +17,7 @@ loop-slot-preserved c =
     let lt : i < length nfas = omega (arith, c.loop-slot-test.true, ap length same) in
     let is = subst (λ (ms : List NfaValue). m ≡ get_or ms i m) same c.automaton-item.is in
     record {
-      none = none_limit nfas i m lt is {P = λ x. MatchesAfter x (c.args.text.now ++ c.args.byte ∷ [])} inv.none (λ some. true≢false (sym (c.in_ok-can_match_after.ensures.some.1 some) ∙ c.if-branch.false));
+      none = none_limit nfas i m lt is (λ x. MatchesAfter x (c.args.text.now ++ c.args.byte ∷ [])) inv.none (λ some. true≢false (sym (c.in_ok-can_match_after.ensures.some.1 some) ∙ c.if-branch.false));
       caches = c.can_match_after.ensures.caches ∙ inv.caches;
       kept = omega (arith, c.can_match_after.ensures.kept, inv.kept);
       visits = visits_more nfas i m lt is (length c.args.text.now + 2) c.args.visits.now c.loop-slot.visits c.can_match_after.new.visits c.can_match_after.ensures.visits inv.visits;

@@ -18,7 +18,7 @@ returns-in-len1-up-clause-held c = λ s is.
     let lt = c.self.invariant.held c.args.extension.now s (first_in (indexes_under c.self.inside.slots c.args.extension.now) s (at ∙ is)) in
     omega (arith, lt, ap (λ (e : ExtensionParts). length e.nfas) c.self.view_is)
 
-pub returns-clause-slot : goal.returns-clause-slot
-returns-clause-slot c =
+pub returns-in-empty-clause-slot : goal.returns-in-empty-clause-slot
+returns-in-empty-clause-slot c =
     let none : slot_of c.self.inside.slots c.args.extension.now ≡ None = ap first (sym c.get.ensures.indexes) ∙ first_none c.get.result.now c.in-empty.len_below in
     sym none ∙ ap (λ (e : ExtensionParts). slot_of e.slots c.args.extension.now) c.self.view_is
