@@ -471,7 +471,7 @@ impl Builder {
     }
 
     pub(crate) fn set_dfa_size_limit(&mut self, bytes: usize) {
-        // SAFETY: "Sets how many bytes of rows of automata a set may keep, for the sets that the builder makes from then on."
+        // SAFETY: "Sets how many bytes of rows of automata a set may keep, for the sets that the builder makes from then on".
         done(unsafe { globset_raw_builder_set_dfa_size_limit(&mut self.0, bytes) })
     }
 
