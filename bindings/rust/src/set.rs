@@ -10,9 +10,9 @@ use crate::{ffi, Candidate, Error, Glob};
 /// path in a set.
 ///
 /// Any number of threads may share a set, and a clone shares what was made for matching. A set keeps memory for each thread
-/// that calls it, from the thread's first call on: eight bytes for each glob, some for automata, and up to 4 MiB for their
-/// rows, or more if its globs are very many. After a thread has ended, another uses its memory. The last clone of the set frees
-/// all of it.
+/// that calls it, from the thread's first call on: eight bytes for each glob, some for automata, and for their rows at most what
+/// [`build_with_dfa_size_limit`](crate::ext::build_with_dfa_size_limit) allows. After a thread has ended, another uses its
+/// memory. The last clone of the set frees all of it.
 ///
 /// # Examples
 ///
