@@ -49,8 +49,8 @@ const MAX_ENTRIES: usize = (MARKED - FIRST) as usize;
 /// Lists have places below this, so that entries have room for those of ends.
 const MAX_PLACES: usize = (u32::MAX - FIRST) as usize;
 
-/// In how many places of the table of rows a list is looked for. Half of the places may be taken, so few lists need more than
-/// some.
+/// In how many places of the table of rows a list is looked for. At most half of the places are taken, so most lists are found
+/// in the first few.
 const PROBES: usize = 64;
 
 /// The places of the table while there are few rows: it takes time to fill more.
