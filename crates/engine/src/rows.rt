@@ -12,7 +12,7 @@ ghost use Rattle.engine.specs.inner.Found.{AddsSome};
 use crate::kept::{Kept, KeptCaches, MOST_KEPT};
 use bit_sets::{IndexSet, Visits};
 use byte_nfa::{Nfa, Simulation};
-use lazy_dfa::Cache;
+use lazy_dfa::{Cache, Dfa};
 use std::alloc::{AllocError, Global};
 use std::marker::Model;
 use std::snapshot::Snapshot;
@@ -23,7 +23,7 @@ use std::sync::Arc;
 #[derive(Drop)]
 pub struct RowSource {
     alloc: Global,
-    simulation: Arc<Simulation>,
+    dfa: Arc<Dfa>,
     /// How many bytes the rows of a cache take at most.
     cache_bytes: usize,
     /// In a box, since the pool has room between its places, and a caller may have many automata.
@@ -40,7 +40,7 @@ impl Model for RowSource {
 
     ghost view = { λ r. r.source.value };
 
-    ghost invariant = { λ r. ((arc_value r.simulation).nfa ≡ r.source.value) × (r.kept.value ≡ r.source.value) };
+    ghost invariant = { λ r. ((arc_value r.dfa).nfa ≡ r.source.value) × (r.kept.value ≡ r.source.value) };
 }
 
 impl RowSource {
@@ -61,9 +61,13 @@ impl RowSource {
     {
         let states = automaton.state_count();
         let share = share_of(dfa_size_limit, states, all_states);
-        let least = Cache::least_bytes(simulation);
+        if share / MOST_KEPT < FEWEST_BYTES || !simulation.may_have_rows() {
+            return Ok(None);
+        }
+        let dfa = Dfa::new(alloc, simulation)?;
+        let least = Cache::least_bytes(&dfa);
         let most = (share / least.max(1)).min(MOST_KEPT);
-        if share / MOST_KEPT < FEWEST_BYTES || most == 0 || !simulation.may_have_rows() {
+        if most == 0 {
             return Ok(None);
         }
         let cache_bytes = (share / most)
@@ -71,7 +75,7 @@ impl RowSource {
             .max(least);
         Ok(Some(RowSource {
             alloc,
-            simulation: Arc::try_clone(simulation)?,
+            dfa: Arc::new(alloc, dfa)?,
             cache_bytes,
             kept: Box::new(alloc, KeptCaches::new(automaton, most, least, cache_bytes))?,
             source: Snapshot::of(automaton),
@@ -82,7 +86,7 @@ impl RowSource {
     pub fn new_cache(&self, alloc: Global) -> Result<Cache, AllocError>
         ensures { IfOk result (λ cache. cache ≡ self.now) }
     {
-        Cache::new(alloc, &self.simulation, self.cache_bytes)
+        Cache::new(alloc, &self.dfa, self.cache_bytes)
     }
 
     /// Returns how many bytes the caches take that are kept between calls.
@@ -162,7 +166,7 @@ impl RowSource {
     {
         let cache = match self.kept.published() {
             Some(known) => Cache::with_rows_of(self.alloc, known, bytes)?,
-            None => Cache::new(self.alloc, &self.simulation, bytes)?,
+            None => Cache::new(self.alloc, &self.dfa, bytes)?,
         };
         Ok(Kept::new(cache, bytes))
     }

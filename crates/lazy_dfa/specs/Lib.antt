@@ -1,1 +1,2 @@
+pub mod DfaValue
 pub mod inner

@@ -4,3 +4,4 @@ pub mod Lists
 pub mod Rows
 pub mod Reached
 pub mod Classes
+pub mod Dfa

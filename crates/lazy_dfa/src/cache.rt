@@ -1,16 +1,20 @@
 //! The memory of a thread, and its answers.
 
-ghost use Rattle.std.specs.Prelude.{◌≡◌, ℕ, ◌+◌, ◌*◌, ◌≤◌, ◌⊎◌, ◌↔◌, ◌++◌, ◌∷◌, [], length, IsTrue, IfOk, IfSome, None};
+ghost use Rattle.std.specs.Prelude.{◌≡◌, ℕ, ◌+◌, ◌*◌, ◌<◌, ◌≤◌, ◌⊎◌, ◌↔◌, ◌++◌, ◌∷◌, [], length, IsTrue, IfOk, IfSome, None};
 ghost use Rattle.std.specs.Arc.{arc_value};
 ghost use Rattle.bit_sets.specs.Indexes.{has_index, index_capacity};
 ghost use Rattle.byte_nfa.specs.Live.{MatchesAfter};
 ghost use Rattle.byte_nfa.specs.Runs.{size};
 ghost use Rattle.byte_nfa.specs.Steps.{NfaValue, IsReached};
-ghost use Rattle.lazy_dfa.specs.inner.Rows.{IsSound};
+ghost use Rattle.lazy_dfa.specs.inner.Reached.{IsWhere};
+ghost use Rattle.lazy_dfa.specs.inner.Rows.{HasRoomFor, IsSound};
 
-use crate::rows::{self, Rows};
+use crate::dfa::Dfa;
+use crate::pass::Pass;
+use crate::rows::{self, GivenUp, Rows};
+use crate::run::Reached;
 use bit_sets::{IndexSet, Visits};
-use byte_nfa::Simulation;
+use byte_nfa::stepping::tell_ends;
 use std::alloc::{AllocError, Global};
 use std::marker::Model;
 use std::sync::Arc;
@@ -21,45 +25,38 @@ use std::sync::Arc;
 /// has no effect on an answer.
 #[derive(Drop)]
 pub struct Cache {
-    simulation: Arc<Simulation>,
-    // In a box, since a cache is moved from call to call while a searcher is made.
+    dfa: Arc<Dfa>,
+    // In boxes, since a cache is moved from call to call.
     rows: Box<Rows>,
+    pass: Box<Pass>,
 }
 
 impl Model for Cache {
     ghost Value = { NfaValue };
 
-    ghost view = { λ c. (arc_value c.simulation).nfa };
+    ghost view = { λ c. (arc_value c.dfa).nfa };
 
-    ghost invariant = { λ c. IsSound (arc_value c.simulation).run c.rows.value };
+    ghost invariant = { λ c. IsSound (arc_value c.dfa) c.rows.value × HasRoomFor (arc_value c.dfa).run c.pass.value };
 }
 
 impl Cache {
     /// Returns a number of bytes from which on a cache of the automaton takes no more than it is asked to take.
-    pub fn least_bytes(simulation: &Simulation) -> usize {
-        rows::least_bytes(simulation.automaton(), simulation.indexes().len())
+    pub fn least_bytes(dfa: &Dfa) -> usize {
+        rows::least_bytes(dfa)
     }
 
     /// Returns a cache with no rows.
     ///
     /// It takes at most so many bytes, fewer where a small automaton cannot fill them, and more only where the states of a row
     /// take most of them: there is always room for these, and a quarter of the bytes for rows. All memory is taken here, and none
-    /// by later calls. Returns an error if memory runs out, or if [`Simulation::may_have_rows`] returns `false`.
-    pub fn new(
-        alloc: Global,
-        simulation: &Arc<Simulation>,
-        bytes: usize,
-    ) -> Result<Cache, AllocError>
-        ensures { IfOk result (λ cache. cache ≡ (arc_value simulation.now).nfa) }
+    /// by later calls. Returns an error if memory runs out.
+    pub fn new(alloc: Global, dfa: &Arc<Dfa>, bytes: usize) -> Result<Cache, AllocError>
+        ensures { IfOk result (λ cache. cache ≡ (arc_value dfa.now).nfa) }
     {
-        if !simulation.may_have_rows() {
-            return Err(AllocError);
-        }
-        let indexes = simulation.indexes().len();
-        let rows = Rows::new(alloc, simulation.automaton(), indexes, bytes)?;
         Ok(Cache {
-            simulation: Arc::try_clone(simulation)?,
-            rows: Box::new(alloc, rows)?,
+            dfa: Arc::try_clone(dfa)?,
+            rows: Box::new(alloc, Rows::new(alloc, dfa, bytes)?)?,
+            pass: Box::new(alloc, Pass::new(alloc, dfa)?)?,
         })
     }
 
@@ -69,13 +66,12 @@ impl Cache {
     pub fn with_rows_of(alloc: Global, other: &Cache, bytes: usize) -> Result<Cache, AllocError>
         ensures { IfOk result (λ cache. cache ≡ other.now) }
     {
-        let simulation = &other.simulation;
-        let indexes = simulation.indexes().len();
-        let mut rows = Rows::new(alloc, simulation.automaton(), indexes, bytes)?;
+        let mut rows = Rows::new(alloc, &other.dfa, bytes)?;
         rows.take_over(&other.rows);
         Ok(Cache {
-            simulation: Arc::try_clone(simulation)?,
+            dfa: Arc::try_clone(&other.dfa)?,
             rows: Box::new(alloc, rows)?,
+            pass: Box::new(alloc, Pass::new(alloc, &other.dfa)?)?,
         })
     }
 
@@ -86,7 +82,7 @@ impl Cache {
 
     /// Returns the bytes that its rows may take. It also has a few bits for each state and for each index.
     pub fn bytes(&self) -> usize {
-        self.rows.bytes()
+        self.rows.bytes().saturating_add(self.pass.bytes())
     }
 
     /// Puts the index of each end that a text leads to into a set, beside what it holds.
@@ -109,9 +105,40 @@ impl Cache {
         ensures visits { visits.new ≤ visits.old + (length text.now + 1) * (size self.old + 1) }
         ensures counted { visits.old ≤ visits.new }
     {
-        let automaton = self.simulation.automaton();
-        self.rows
-            .find(automaton, self.simulation.indexes(), text, found, visits);
+        let dfa = &*self.dfa;
+        let rows = &mut *self.rows;
+        let pass = &mut *self.pass;
+        if dfa.state_count() == 0 {
+            return;
+        }
+        let half = dfa.half();
+        let mut given_up = GivenUp::new(rows);
+        let mut place = rows.start(dfa, visits);
+        let mut rest = text;
+        loop {
+            let Some(left) = rows.find_from(dfa, place, rest, found, visits) else {
+                return;
+            };
+            if left.at == rest.len() {
+                if rows.finish(dfa, left.place, pass, visits) {
+                    tell_ends(&pass.ends, half, 0, found);
+                }
+                return;
+            }
+            let byte = rest[left.at];
+            let step = rows.leave(dfa, left.place, byte, pass, visits);
+            tell_ends(&pass.ends, half, half, found);
+            let Some(next) = step.next else {
+                return;
+            };
+            rest = &rest[left.at + 1..];
+            let Some(left) = rows.find_stepped(dfa, next, rest, &mut given_up, pass, found, visits)
+            else {
+                return;
+            };
+            place = left.place;
+            rest = &rest[left.at..];
+        }
     }
 
     /// The same as [`Cache::find`] by entries that are there. Returns whether all that it needs are; if not, some of the indexes
@@ -133,14 +160,12 @@ impl Cache {
         ensures visits { visits.new ≤ visits.old + (length text.now + 1) }
         ensures counted { visits.old ≤ visits.new }
     {
-        let automaton = self.simulation.automaton();
-        let Some(place) = self.rows.begin else {
-            return false;
-        };
-        let indexes = self.simulation.indexes();
-        self.rows
-            .find_from(automaton, place, indexes, text, found, visits)
-            .is_none()
+        let dfa = &*self.dfa;
+        let rows = &*self.rows;
+        match rows.begin {
+            Some(place) => rows.find_from(dfa, place, text, found, visits).is_none(),
+            None => false,
+        }
     }
 
     /// Returns whether a text leads to some end. It stops as soon as the rest cannot change that.
@@ -152,8 +177,20 @@ impl Cache {
         ensures visits { visits.new ≤ visits.old + (length text.now + 1) * (size self.old + 1) }
         ensures counted { visits.old ≤ visits.new }
     {
-        let automaton = self.simulation.automaton();
-        self.rows.is_match(automaton, text, visits)
+        let dfa = &*self.dfa;
+        let rows = &mut *self.rows;
+        let pass = &mut *self.pass;
+        if dfa.state_count() == 0 {
+            return false;
+        }
+        match read(dfa, rows, pass, text, visits) {
+            Reached::Decided => true,
+            Reached::Nothing => false,
+            Reached::Row(place) => match rows.known_end(dfa, place, visits) {
+                Some(has_end) => has_end,
+                None => rows.finish(dfa, place, pass, visits),
+            },
+        }
     }
 
     /// The same as [`Cache::is_match`] by entries that are there. Returns `None` if one that it needs is not. It is at most one
@@ -164,8 +201,16 @@ impl Cache {
         ensures visits { visits.new ≤ visits.old + (length text.now + 1) }
         ensures counted { visits.old ≤ visits.new }
     {
-        let automaton = self.simulation.automaton();
-        self.rows.is_match_known(automaton, text, visits)
+        let dfa = &*self.dfa;
+        let rows = &*self.rows;
+        if dfa.state_count() == 0 {
+            return Some(false);
+        }
+        match rows.read_known(dfa, text, visits)? {
+            Reached::Decided => Some(true),
+            Reached::Nothing => Some(false),
+            Reached::Row(place) => rows.known_end(dfa, place, visits),
+        }
     }
 
     /// Returns whether some text that begins with `text` and then `byte` leads to some end.
@@ -177,10 +222,25 @@ impl Cache {
         ensures visits { visits.new ≤ visits.old + (length text.now + 2) * (size self.old + 1) }
         ensures counted { visits.old ≤ visits.new }
     {
-        let automaton = self.simulation.automaton();
-        let live = self.simulation.live_states();
-        self.rows
-            .can_match_after(automaton, live, text, byte, visits)
+        let dfa = &*self.dfa;
+        let rows = &mut *self.rows;
+        let pass = &mut *self.pass;
+        if dfa.state_count() == 0 {
+            return false;
+        }
+        let place = match read(dfa, rows, pass, text, visits) {
+            Reached::Decided => return true,
+            Reached::Nothing => return false,
+            Reached::Row(place) => place,
+        };
+        let step = rows.step(dfa, place, byte, pass, visits);
+        if step.has_marks {
+            return true;
+        }
+        match step.next {
+            Some(next) => rows.is_live(dfa, next, visits),
+            None => false,
+        }
     }
 
     /// The same as [`Cache::can_match_after`] by entries that are there. Returns `None` if one that it needs is not. It is at
@@ -192,9 +252,68 @@ impl Cache {
         ensures visits { visits.new ≤ visits.old + (length text.now + 1) + size self.now }
         ensures counted { visits.old ≤ visits.new }
     {
-        let automaton = self.simulation.automaton();
-        let live = self.simulation.live_states();
-        self.rows
-            .can_match_after_known(automaton, live, text, byte, visits)
+        let dfa = &*self.dfa;
+        let rows = &*self.rows;
+        if dfa.state_count() == 0 {
+            return Some(false);
+        }
+        let place = match rows.read_known(dfa, text, visits)? {
+            Reached::Decided => return Some(true),
+            Reached::Nothing => return Some(false),
+            Reached::Row(place) => place,
+        };
+        let step = rows.known_step(dfa, place, byte, visits)?;
+        if step.has_marks {
+            return Some(true);
+        }
+        match step.next {
+            Some(next) => Some(rows.is_live(dfa, next, visits)),
+            None => Some(false),
+        }
+    }
+}
+
+/// Reads a text from its beginning, up to the first index that is decided. Where rows are forgotten twice, a part of the text is
+/// read by sets of states.
+fn read(dfa: &Dfa, rows: &mut Rows, pass: &mut Pass, text: &[u8], visits: &mut Visits) -> Reached
+    // The rows are right for the automaton, which has a state, and there is memory for a pass.
+    requires sound { IsSound dfa.now rows.old }
+    requires some { 0 < size dfa.now.run }
+    requires fits { HasRoomFor dfa.now.run pass.old }
+
+    // That stays so, and the result says where the text leads.
+    ensures sound { IsSound dfa.now rows.new }
+    ensures fits { HasRoomFor dfa.now.run pass.new }
+    ensures reached { IsWhere dfa.now rows.new text.now result }
+
+    // The visits are bounded, and do not become fewer.
+    ensures visits { visits.new
+        ≤ visits.old + (length text.now * (size dfa.now.run + 1) + 1) }
+    ensures counted { visits.old ≤ visits.new }
+{
+    let mut given_up = GivenUp::new(rows);
+    let mut place = rows.start(dfa, visits);
+    let mut rest = text;
+    loop {
+        let left = match rows.read_from(dfa, place, rest, visits) {
+            Ok(reached) => return reached,
+            Err(left) => left,
+        };
+        let Some((byte, after)) = rest[left.at..].split_first() else {
+            return Reached::Row(left.place);
+        };
+        let step = rows.leave(dfa, left.place, *byte, pass, visits);
+        if step.has_marks {
+            return Reached::Decided;
+        }
+        let Some(next) = step.next else {
+            return Reached::Nothing;
+        };
+        let left = match rows.read_stepped(dfa, next, after, &mut given_up, pass, visits) {
+            Ok(reached) => return reached,
+            Err(left) => left,
+        };
+        place = left.place;
+        rest = &after[left.at..];
     }
 }

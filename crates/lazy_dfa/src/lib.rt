@@ -8,9 +8,11 @@
 
 mod cache;
 mod classes;
+mod dfa;
 mod lists;
 mod pass;
 mod rows;
 mod run;
 
 pub use cache::Cache;
+pub use dfa::Dfa;

@@ -1,6 +1,6 @@
 //! A pass over the states of a set, at a position of a text.
 
-ghost use Rattle.std.specs.Prelude.{◌≡◌, ℕ, ◌+◌, ◌<◌, ◌≤◌, ◌||◌, ◌↔◌, ◌==◌, ◌∷◌, [], List, Some, None, length, vec_capacity, IsTrue};
+ghost use Rattle.std.specs.Prelude.{◌≡◌, ℕ, ◌+◌, ◌<◌, ◌≤◌, ◌||◌, ◌↔◌, ◌==◌, ◌∷◌, [], List, Some, None, length, vec_capacity, IsTrue, IfOk};
 ghost use Rattle.bit_sets.specs.Indexes.{has_index, index_capacity};
 ghost use Rattle.bit_sets.specs.Numbers.{has_number, AreBelow};
 ghost use Rattle.bit_sets.specs.StateSets.{has_state, state_capacity};
@@ -8,10 +8,64 @@ ghost use Rattle.byte_nfa.specs.Steps.{state};
 ghost use Rattle.byte_nfa.specs.Runs.{size, AcceptsFrom, AcceptsIn};
 ghost use Rattle.byte_nfa.specs.inner.Views.{GoesBelow};
 ghost use Rattle.byte_nfa.specs.inner.Pass.{goes_now, goes_next, names};
+ghost use Rattle.lazy_dfa.specs.inner.Rows.{HasRoomFor};
 
+use crate::dfa::Dfa;
 use crate::lists::push_within;
 use bit_sets::{IndexSet, StateSet, Visits};
 use byte_nfa::Nfa;
+use std::alloc::{AllocError, Global};
+use std::mem;
+
+/// The memory for passes over sets of states of an automaton, and what the last one found. It is taken when it is made.
+#[derive(Drop)]
+pub struct Pass {
+    /// The states that a pass takes.
+    pub from: StateSet,
+    /// The states of the next pass, while a text is read without rows.
+    pub next: StateSet,
+    /// The indexes of the ends that are found without a byte.
+    pub ends: IndexSet,
+    /// The states that a byte leads to.
+    pub list: Vec<u32>,
+    /// Room for a list of the indexes in `ends`.
+    pub told: Vec<u32>,
+}
+
+impl Pass {
+    /// Returns memory for passes over all states of an automaton.
+    pub fn new(alloc: Global, dfa: &Dfa) -> Result<Pass, AllocError>
+        ensures { IfOk result (HasRoomFor dfa.now.run) }
+    {
+        let automaton = dfa.automaton();
+        let states = automaton.state_count();
+        Ok(Pass {
+            from: StateSet::new(alloc, states)?,
+            next: StateSet::new(alloc, states)?,
+            ends: IndexSet::new(alloc, automaton.index_count())?,
+            list: Vec::with_capacity(alloc, states)?,
+            told: Vec::with_capacity(alloc, most_told(dfa))?,
+        })
+    }
+
+    /// Returns for how many numbers its lists have room.
+    pub fn numbers(dfa: &Dfa) -> usize {
+        dfa.state_count().saturating_add(most_told(dfa))
+    }
+
+    /// Returns the bytes that its lists take.
+    pub fn bytes(&self) -> usize {
+        self.list
+            .capacity()
+            .saturating_add(self.told.capacity())
+            .saturating_mul(mem::size_of::<u32>())
+    }
+}
+
+/// Returns how many ends a row may lead to. An index has two: where it is found, and where it is decided.
+fn most_told(dfa: &Dfa) -> usize {
+    dfa.indexes().len().saturating_mul(2)
+}
 
 /// Puts the states that a byte leads to from the states of a set into the list `to`. Puts the indexes of the ends that they lead
 /// to without a byte into `ends`.

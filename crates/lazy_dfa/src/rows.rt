@@ -2,31 +2,24 @@
 
 ghost use Rattle.std.specs.Prelude.{◌≡◌, ℕ, ◌+◌, ◌-◌, ◌*◌, ◌<◌, ◌≤◌, ◌↔◌, ◌++◌, ◌∷◌, [], List, length, slice_index, replicate, vec_len, vec_capacity, Some, None, IsTrue, IsFalse, IfOk, IfSome, MatchOption};
 ghost use Rattle.bit_sets.specs.Indexes.{has_index, index_capacity};
-ghost use Rattle.bit_sets.specs.StateSets.{state_capacity};
-ghost use Rattle.bit_sets.specs.Numbers.{has_number, AreBelow};
 ghost use Rattle.bit_sets.specs.Texts.{AllBytes};
-ghost use Rattle.byte_nfa.specs.Live.{AreLive};
-ghost use Rattle.byte_nfa.specs.Steps.{NfaValue};
-ghost use Rattle.byte_nfa.specs.Runs.{size, AcceptsFrom, AcceptsIn};
+ghost use Rattle.byte_nfa.specs.Runs.{size, AcceptsIn};
 ghost use Rattle.byte_nfa.specs.EarlyMatches.{half};
-ghost use Rattle.byte_nfa.specs.inner.Sources.{FitsU32};
-ghost use Rattle.std.specs.List.Sorted.{IsStrictlyIncreasing};
+ghost use Rattle.lazy_dfa.specs.inner.Dfa.{IsListOfStates};
 ghost use Rattle.lazy_dfa.specs.inner.Hashes.{list_hash};
 ghost use Rattle.lazy_dfa.specs.inner.Index.{AreFound, IsFree, IsIndexed, nth_place};
 ghost use Rattle.lazy_dfa.specs.inner.Lists.{list_at};
-ghost use Rattle.lazy_dfa.specs.inner.Rows.{AcceptsRow, HasEnds, HasNoRow, IsEntry, IsRowOf, IsSound, LeadsTo, MarksAre, AreListed, KeepsRows, HasSpace, with_table_of, states_of, max_entries, marked, BeginsAt, IsAt, IsStep};
+ghost use Rattle.lazy_dfa.specs.inner.Rows.{AcceptsRow, HasEnds, HasRoomFor, HasNoRow, IsEntry, IsRowOf, IsSound, LeadsTo, MarksAre, AreListed, KeepsRows, HasSpace, with_table_of, states_of, max_entries, marked, BeginsAt, IsAt, IsStep};
 
 mod known;
 mod stepped;
 
-use crate::classes::ByteClasses;
+use crate::dfa::Dfa;
 use crate::lists::{
-    copy_within, extend_within, hash_of, list_indexes, list_of, push_within, put_in_order,
-    put_states, zeros_within,
+    extend_within, hash_of, list_indexes, push_within, put_in_order, put_states, zeros_within,
 };
-use crate::pass::read;
-use bit_sets::{IndexSet, StateSet, Visits};
-use byte_nfa::Nfa;
+use crate::pass::{Pass, read};
+use bit_sets::{IndexSet, Visits};
 use std::alloc::{AllocError, Global};
 use std::mem;
 pub use stepped::GivenUp;
@@ -94,14 +87,12 @@ struct Found {
     is_kept: bool,
 }
 
-/// The rows that are made, each for a list of states that some text leads to, and the memory for a step.
+/// The rows that are made, each for a list of states that some text leads to.
 ///
 /// All memory is taken when it is made. If there is no room for a row more, all rows are forgotten. A run holds a row as the place
 /// where its entries begin, so that it need not multiply for each byte.
 #[derive(Drop)]
 pub struct Rows {
-    class_of: [u8; 256],
-    class_count: usize,
     /// For each row, where its list of states stands.
     starts: Vec<u32>,
     /// The lists of states, and of the indexes of ends, in order: each has its length, and then its numbers.
@@ -116,130 +107,77 @@ pub struct Rows {
     pub seed: usize,
     /// The place of the row that a run begins in, if it is made.
     pub begin: Option<usize>,
-    /// The states that a run begins in.
-    first: Vec<u32>,
-    /// The states that a pass takes.
-    pub from: StateSet,
-    /// The states of the next pass, while a text is read without rows.
-    pub next: StateSet,
-    /// The indexes of the ends that are found without a byte.
-    pub ends: IndexSet,
-    /// The states that a byte leads to, in the order in which the pass found them.
-    list: Vec<u32>,
-    /// The list of the indexes in `ends`.
-    told: Vec<u32>,
 }
 
 impl Rows {
-    /// Returns no rows, with room for all that fit `bytes` bytes, and at least for one. `found` is the number of indexes that may
-    /// be found.
-    pub fn new(
-        alloc: Global,
-        automaton: &Nfa,
-        found: usize,
-        bytes: usize,
-    ) -> Result<Rows, AllocError>
-        requires { FitsU32 automaton.now }
-        ensures { IfOk result (λ rows. IsSound automaton.now rows) }
+    /// Returns no rows, with room for all that fit `bytes` bytes, and at least for one.
+    pub fn new(alloc: Global, dfa: &Dfa, bytes: usize) -> Result<Rows, AllocError>
+        ensures { IfOk result (λ rows. IsSound dfa.now rows) }
     {
-        let states = automaton.state_count();
-        let indexes = automaton.index_count();
-        let mut from = StateSet::new(alloc, states)?;
-        automaton.start(&mut from);
-        let mut list = Vec::with_capacity(alloc, states)?;
-        list_of(&from, states, &mut list, &mut Visits::new());
-        put_in_order(&mut list);
-        // The copy has no more room than it needs.
-        let mut first = Vec::with_capacity(alloc, list.len())?;
-        copy_within(&mut first, &list);
-        let classes = ByteClasses::new(automaton);
-        let width = classes.count + 1;
-        // An index has two ends: where it is found, and where it is decided.
-        let told = found.saturating_mul(2);
-        let taken = states.saturating_add(told).saturating_add(first.len());
-        let room = room_within(bytes, width, states, taken);
+        let room = room_within(dfa, bytes);
+        let width = dfa.class_count() + 1;
         let mut table = Vec::with_capacity(alloc, room.rows.saturating_mul(2))?;
         zeros_within(&mut table, FEWEST_PLACES.min(room.rows));
         Ok(Rows {
-            class_of: classes.class_of,
-            class_count: classes.count,
             starts: Vec::with_capacity(alloc, room.rows)?,
             lists: Vec::with_capacity(alloc, room.listed)?,
             entries: Vec::with_capacity(alloc, room.rows.saturating_mul(width))?,
             table,
             seed: 0,
             begin: None,
-            first,
-            from,
-            next: StateSet::new(alloc, states)?,
-            ends: IndexSet::new(alloc, indexes)?,
-            list,
-            told: Vec::with_capacity(alloc, told)?,
         })
     }
 
-    /// Returns the bytes that the rows may take, with the lists of states and indexes, and the table that finds rows.
+    /// Returns the bytes that the rows may take, with their lists and the table that finds them.
     pub fn bytes(&self) -> usize {
         self.entries
             .capacity()
             .saturating_add(self.table.capacity())
             .saturating_add(self.starts.capacity())
             .saturating_add(self.lists.capacity())
-            .saturating_add(self.first.capacity())
-            .saturating_add(self.list.capacity())
-            .saturating_add(self.told.capacity())
             .saturating_mul(mem::size_of::<u32>())
     }
 
     /// Returns the place of the row in which a run begins. If it is not made, it is looked up, which is a visit.
-    pub fn start(&mut self, automaton: &Nfa, visits: &mut Visits) -> usize
-        requires { IsSound automaton.now self.old }
-        ensures sound { IsSound automaton.now self.new }
-        ensures begins { BeginsAt automaton.now self.new result }
+    pub fn start(&mut self, dfa: &Dfa, visits: &mut Visits) -> usize
+        requires { IsSound dfa.now self.old }
+        ensures sound { IsSound dfa.now self.new }
+        ensures begins { BeginsAt dfa.now self.new result }
         ensures visits { visits.new ≤ visits.old + 1 }
         ensures counted { visits.old ≤ visits.new }
     {
         if let Some(place) = self.begin {
             return place;
         }
-        copy_within(&mut self.list, &self.first);
-        let found = self.seek(automaton, visits);
+        let found = self.seek(dfa, dfa.first(), visits);
         self.begin = Some(found.place);
         found.place
     }
 
     /// Returns the number of the row at a place.
-    fn row_at(&self, place: usize) -> usize
-        requires { self.now.class_count < max_entries }
-        ensures { (i : ℕ) → place ≡ i * (self.now.class_count + 1) → result ≡ i }
+    fn row_at(&self, dfa: &Dfa, place: usize) -> usize
+        requires { dfa.now.class_count < max_entries }
+        ensures { (i : ℕ) → place ≡ i * (dfa.now.class_count + 1) → result ≡ i }
     {
-        place / (self.class_count + 1)
+        place / (dfa.class_count() + 1)
     }
 
-    /// Returns whether some bytes lead from the row at a place to an end. `live` has all states from which some bytes lead to an
-    /// end. It reads states of the row until it comes to a live state, and each is a visit.
-    pub fn is_live(
-        &self,
-        automaton: &Nfa,
-        place: usize,
-        live: &StateSet,
-        visits: &mut Visits,
-    ) -> bool
-        // The rows are right for the automaton, there is a row at the place, and `live` says of each state whether it is live.
-        requires sound { IsSound automaton.now self.now }
-        requires row { (i : ℕ) × IsAt self.now i place }
-        requires live { AreLive automaton.now live.now }
-        requires room { size automaton.now ≤ state_capacity live.now }
+    /// Returns whether some bytes lead from the row at a place to an end. It reads states of the row until it comes to one from
+    /// which some bytes do, and each is a visit.
+    pub fn is_live(&self, dfa: &Dfa, place: usize, visits: &mut Visits) -> bool
+        // The rows are right for the automaton, and there is a row at the place.
+        requires sound { IsSound dfa.now self.now }
+        requires row { (i : ℕ) × IsAt dfa.now self.now i place }
 
         // The result says whether some bytes lead from the row to an end, and the visits are bounded.
-        ensures some { (i : ℕ) → IsAt self.now i place
+        ensures some { (i : ℕ) → IsAt dfa.now self.now i place
             → IsTrue result ↔ ((k : ℕ) × (y : List ℕ) × AllBytes y
-            × AcceptsRow automaton.now self.now i y k) }
-        ensures visits { visits.new ≤ visits.old + size automaton.now }
+            × AcceptsRow dfa.now.run self.now i y k) }
+        ensures visits { visits.new ≤ visits.old + size dfa.now.run }
         ensures counted { visits.old ≤ visits.new }
     {
-        let _automaton = automaton;
-        for state in states_at(&self.starts, &self.lists, self.row_at(place)) {
+        let live = dfa.live_states();
+        for state in states_at(&self.starts, &self.lists, self.row_at(dfa, place)) {
             if live.has(*state as usize, visits) {
                 return true;
             }
@@ -247,98 +185,117 @@ impl Rows {
         false
     }
 
-    /// Returns whether the row at a place leads to some end without a byte. If it does, `ends` has afterwards the indexes of these. It
-    /// writes that entry: a run calls it where [`Rows::known_end`] does not know.
+    /// Returns whether the row at a place leads to some end without a byte. If it does, `ends` of the pass has afterwards the indexes of
+    /// these. It writes that entry: a run calls it where [`Rows::known_end`] does not know.
     ///
     /// Each state of the row is read at most once, which is a visit.
-    pub fn finish(&mut self, automaton: &Nfa, place: usize, visits: &mut Visits) -> bool
-        // The rows are right for the automaton, and there is a row at the place.
-        requires sound { IsSound automaton.now self.old }
-        requires row { (i : ℕ) × IsAt self.old i place }
+    pub fn finish(&mut self, dfa: &Dfa, place: usize, pass: &mut Pass, visits: &mut Visits) -> bool
+        // The rows are right for the automaton, there is a row at the place, and there is memory for a pass.
+        requires sound { IsSound dfa.now self.old }
+        requires row { (i : ℕ) × IsAt dfa.now self.old i place }
+        requires fits { HasRoomFor dfa.now.run pass.old }
 
-        // The rows stay right, and the result says whether the row has ends without a byte. If it has any, `ends` has these.
-        ensures sound { IsSound automaton.now self.new }
-        ensures some { (i : ℕ) → IsAt self.old i place
-            → IsTrue result ↔ ((k : ℕ) × (k < half automaton.now + half automaton.now)
-            × AcceptsRow automaton.now self.old i [] k) }
-        ensures ends { (i : ℕ) → IsAt self.old i place → IsTrue result
-            → HasEnds automaton.now self.old i self.new.ends }
+        // That stays so, and the result says whether the row has ends without a byte. If it has any, `ends` has these.
+        ensures sound { IsSound dfa.now self.new }
+        ensures fits { HasRoomFor dfa.now.run pass.new }
+        ensures some { (i : ℕ) → IsAt dfa.now self.old i place
+            → IsTrue result ↔ ((k : ℕ) × (k < half dfa.now.run + half dfa.now.run)
+            × AcceptsRow dfa.now.run self.old i [] k) }
+        ensures ends { (i : ℕ) → IsAt dfa.now self.old i place
+            → HasEnds dfa.now.run self.old i pass.new.ends }
 
         // The visits are bounded, and do not become fewer.
-        ensures visits { visits.new ≤ visits.old + size automaton.now }
+        ensures visits { visits.new ≤ visits.old + size dfa.now.run }
         ensures counted { visits.old ≤ visits.new }
     {
-        let row = self.row_at(place);
+        let row = self.row_at(dfa, place);
         // What any byte leads to has no effect here.
-        self.read_row(automaton, row, 0, visits);
-        let half = automaton.index_count() / 2;
-        if self.ends.next_below(0, half + half).is_some() {
-            self.keep_ends(automaton, row);
+        self.read_row(dfa, row, 0, pass, visits);
+        let half = dfa.half();
+        if pass.ends.next_below(0, half + half).is_some() {
+            self.keep_ends(dfa, row, &pass.ends, &mut pass.told);
             return true;
         }
-        let column = self.class_count;
-        self.write(row, column, DEAD);
+        self.write(dfa, row, dfa.class_count(), DEAD);
         false
     }
 
     /// Returns where a byte leads from the row at a place, by its entry if that is known, which is a visit. Otherwise it has the
     /// cost of [`Rows::leave`].
-    pub fn step(&mut self, automaton: &Nfa, place: usize, byte: u8, visits: &mut Visits) -> Step
-        // The rows are right for the automaton, and there is a row at the place.
-        requires sound { IsSound automaton.now self.old }
-        requires row { (i : ℕ) × IsAt self.old i place }
+    pub fn step(
+        &mut self,
+        dfa: &Dfa,
+        place: usize,
+        byte: u8,
+        pass: &mut Pass,
+        visits: &mut Visits,
+    ) -> Step
+        // The rows are right for the automaton, there is a row at the place, and there is memory for a pass.
+        requires sound { IsSound dfa.now self.old }
+        requires row { (i : ℕ) × IsAt dfa.now self.old i place }
+        requires fits { HasRoomFor dfa.now.run pass.old }
 
-        // The rows stay right, and the step says where the byte leads and whether the row has marks. The visits are bounded.
-        ensures sound { IsSound automaton.now self.new }
-        ensures step { (i : ℕ) → IsAt self.old i place
-            → IsStep automaton.now self.old i byte result self.new }
-        ensures visits { visits.new ≤ visits.old + (size automaton.now + 1) }
+        // That stays so, and the step says where the byte leads and whether the row has marks. The visits are bounded.
+        ensures sound { IsSound dfa.now self.new }
+        ensures fits { HasRoomFor dfa.now.run pass.new }
+        ensures step { (i : ℕ) → IsAt dfa.now self.old i place
+            → IsStep dfa.now self.old i byte result self.new }
+        ensures visits { visits.new ≤ visits.old + (size dfa.now.run + 1) }
         ensures counted { visits.old ≤ visits.new }
     {
-        if let Some(step) = self.known_step(place, byte, visits) {
+        if let Some(step) = self.known_step(dfa, place, byte, visits) {
             return step;
         }
-        self.leave(automaton, place, byte, visits)
+        self.leave(dfa, place, byte, pass, visits)
     }
 
-    /// Returns where a byte leads from the row at a place. Afterwards `ends` has the indexes of the ends that the row leads to without
-    /// a byte. It writes the entry, unless all rows are forgotten: a run calls it where the entry is not known.
+    /// Returns where a byte leads from the row at a place. Afterwards `ends` of the pass has the indexes of the ends that the row leads
+    /// to without a byte. It writes the entry, unless all rows are forgotten: a run calls it where the entry is not known.
     ///
     /// Each state of the row is read at most once, which is a visit, and the next row is looked up, which is another.
     #[cold]
     #[inline(never)]
-    pub fn leave(&mut self, automaton: &Nfa, place: usize, byte: u8, visits: &mut Visits) -> Step
-        // The rows are right for the automaton, and there is a row at the place.
-        requires sound { IsSound automaton.now self.old }
-        requires row { (i : ℕ) × IsAt self.old i place }
+    pub fn leave(
+        &mut self,
+        dfa: &Dfa,
+        place: usize,
+        byte: u8,
+        pass: &mut Pass,
+        visits: &mut Visits,
+    ) -> Step
+        // The rows are right for the automaton, there is a row at the place, and there is memory for a pass.
+        requires sound { IsSound dfa.now self.old }
+        requires row { (i : ℕ) × IsAt dfa.now self.old i place }
+        requires fits { HasRoomFor dfa.now.run pass.old }
 
-        // The rows stay right, the step says where the byte leads and whether the row has marks, and `ends` has the row's ends.
-        ensures sound { IsSound automaton.now self.new }
-        ensures step { (i : ℕ) → IsAt self.old i place
-            → IsStep automaton.now self.old i byte result self.new }
-        ensures ends { (i : ℕ) → IsAt self.old i place
-            → HasEnds automaton.now self.old i self.new.ends }
+        // That stays so, the step says where the byte leads and whether the row has marks, and `ends` has the row's ends.
+        ensures sound { IsSound dfa.now self.new }
+        ensures fits { HasRoomFor dfa.now.run pass.new }
+        ensures step { (i : ℕ) → IsAt dfa.now self.old i place
+            → IsStep dfa.now self.old i byte result self.new }
+        ensures ends { (i : ℕ) → IsAt dfa.now self.old i place
+            → HasEnds dfa.now.run self.old i pass.new.ends }
 
         // The visits are bounded, and do not become fewer.
-        ensures visits { visits.new ≤ visits.old + (size automaton.now + 1) }
+        ensures visits { visits.new ≤ visits.old + (size dfa.now.run + 1) }
         ensures counted { visits.old ≤ visits.new }
     {
-        let row = self.row_at(place);
-        self.read_row(automaton, row, byte, visits);
-        let marks = self.keep_marks(automaton, row);
+        let row = self.row_at(dfa, place);
+        self.read_row(dfa, row, byte, pass, visits);
+        let marks = self.keep_marks(dfa, row, &pass.ends, &mut pass.told);
         let has_marks = marks > 0;
-        let class = self.class_of[byte as usize] as usize;
-        if self.list.is_empty() {
-            self.write(row, class, DEAD + marks);
+        let class = dfa.class_of(byte);
+        if pass.list.is_empty() {
+            self.write(dfa, row, class, DEAD + marks);
             return Step {
                 next: None,
                 has_marks,
             };
         }
-        let found = self.seek(automaton, visits);
+        let found = self.seek(dfa, &pass.list, visits);
         // If the rows were forgotten, the row that was left is another one now, or none.
         if found.is_kept {
-            self.write(row, class, found.place as u32 + FIRST + marks);
+            self.write(dfa, row, class, found.place as u32 + FIRST + marks);
         }
         Step {
             next: Some(found.place),
@@ -347,158 +304,148 @@ impl Rows {
     }
 
     /// Returns `MARKED` if the row has marks: if `ends` has an index that says that one is decided. Then the list of `ends` is
-    /// kept. Otherwise it returns 0. The result is added to the entries of the row.
-    fn keep_marks(&mut self, automaton: &Nfa, row: usize) -> u32
+    /// kept. Otherwise it returns 0. The result is added to the entries of the row. `told` is memory for the list.
+    fn keep_marks(&mut self, dfa: &Dfa, row: usize, ends: &IndexSet, told: &mut Vec<u32>) -> u32
         // The rows are right for the automaton, the row is one of them, and `ends` has its ends without a byte.
-        requires sound { IsSound automaton.now self.old }
+        requires sound { IsSound dfa.now self.old }
         requires row { row < length self.old.starts.items }
-        requires ends { HasEnds automaton.now self.old row self.old.ends }
+        requires room { dfa.now.run.index_count ≤ index_capacity ends.now }
+        requires ends { HasEnds dfa.now.run self.old row ends.now }
 
-        // The rows stay right, none is forgotten, the result says whether the row has marks, and `ends` and `list` do not change.
-        ensures sound { IsSound automaton.now self.new }
+        // The rows stay right, none is forgotten, and the result says whether the row has marks.
+        ensures sound { IsSound dfa.now self.new }
         ensures kept { KeepsRows self.old self.new }
-        ensures marks { MarksAre automaton.now self.old row result }
-        ensures ends { self.new.ends ≡ self.old.ends }
-        ensures list { self.new.list ≡ self.old.list }
+        ensures marks { MarksAre dfa.now.run self.old row result }
     {
-        let half = automaton.index_count() / 2;
-        if self.ends.next_below(half, half + half).is_some() {
-            self.keep_ends(automaton, row);
+        let half = dfa.half();
+        if ends.next_below(half, half + half).is_some() {
+            self.keep_ends(dfa, row, ends, told);
             return MARKED;
         }
         0
     }
 
-    /// Keeps the list of the indexes in `ends`, to which a row leads without a byte, if it is not kept yet and there is room.
-    fn keep_ends(&mut self, automaton: &Nfa, row: usize)
+    /// Keeps the list of the indexes in `ends`, to which a row leads without a byte, if it is not kept yet and there is room. `told` is
+    /// memory for the list.
+    fn keep_ends(&mut self, dfa: &Dfa, row: usize, ends: &IndexSet, told: &mut Vec<u32>)
         // The rows are right for the automaton, the row is one of them, and `ends` has its ends without a byte, at least one.
-        requires sound { IsSound automaton.now self.old }
+        requires sound { IsSound dfa.now self.old }
         requires row { row < length self.old.starts.items }
-        requires ends { HasEnds automaton.now self.old row self.old.ends }
-        requires some { (k : ℕ) × (k < half automaton.now + half automaton.now)
-            × AcceptsRow automaton.now self.old row [] k }
+        requires room { dfa.now.run.index_count ≤ index_capacity ends.now }
+        requires ends { HasEnds dfa.now.run self.old row ends.now }
+        requires some { (k : ℕ) × (k < half dfa.now.run + half dfa.now.run)
+            × AcceptsRow dfa.now.run self.old row [] k }
 
-        // The rows stay right, none is forgotten, and `ends` and `list` do not change.
-        ensures sound { IsSound automaton.now self.new }
+        // The rows stay right, and none is forgotten.
+        ensures sound { IsSound dfa.now self.new }
         ensures kept { KeepsRows self.old self.new }
-        ensures ends { self.new.ends ≡ self.old.ends }
-        ensures list { self.new.list ≡ self.old.list }
     {
-        let end = row * (self.class_count + 1) + self.class_count;
+        let end = row * (dfa.class_count() + 1) + dfa.class_count();
         // Each byte that leaves a row with marks comes here.
         if self.entries[end] != UNKNOWN {
             return;
         }
-        let half = automaton.index_count() / 2;
-        if !list_indexes(&self.ends, half + half, &mut self.told) {
+        let half = dfa.half();
+        if !list_indexes(ends, half + half, told) {
             return;
         }
         let place = self.lists.len();
-        if self.lists.capacity() - place <= self.told.len() || place >= MAX_PLACES {
+        if self.lists.capacity() - place <= told.len() || place >= MAX_PLACES {
             return;
         }
-        push_within(&mut self.lists, self.told.len());
-        extend_within(&mut self.lists, &self.told);
+        push_within(&mut self.lists, told.len());
+        extend_within(&mut self.lists, told);
         self.entries[end] = place as u32 + FIRST;
     }
 
-    /// Makes `list` what a row leads to by a byte, in ascending order, and `ends` what it leads to without one. It is at most one visit
-    /// for each state.
-    fn read_row(&mut self, automaton: &Nfa, row: usize, byte: u8, visits: &mut Visits)
-        // The rows are right for the automaton and stay so, none is forgotten, and the row is one of them.
-        requires sound { IsSound automaton.now self.old }
-        requires row { row < length self.old.starts.items }
-        ensures sound { IsSound automaton.now self.new }
-        ensures kept { KeepsRows self.old self.new }
+    /// Makes `list` of the pass what a row leads to by a byte, in ascending order, and `ends` what it leads to without one. It is at most
+    /// one visit for each state.
+    fn read_row(&self, dfa: &Dfa, row: usize, byte: u8, pass: &mut Pass, visits: &mut Visits)
+        // The rows are right for the automaton, the row is one of them, and there is memory for the pass, also afterwards.
+        requires sound { IsSound dfa.now self.now }
+        requires row { row < length self.now.starts.items }
+        requires fits { HasRoomFor dfa.now.run pass.old }
+        ensures fits { HasRoomFor dfa.now.run pass.new }
 
         // The list has the states after the byte, at most as many as there are, and `ends` has the ends without a byte.
         ensures steps { (y : List ℕ) (k : ℕ)
-            → AcceptsRow automaton.now self.old row (byte ∷ y) k
-            ↔ AcceptsIn automaton.now self.new.list.items y k }
-        ensures below { AreBelow (size automaton.now) self.new.list.items }
-        ensures few { length self.new.list.items ≤ size automaton.now }
-        ensures ordered { IsStrictlyIncreasing self.new.list.items }
-        ensures ends { HasEnds automaton.now self.old row self.new.ends }
+            → AcceptsRow dfa.now.run self.now row (byte ∷ y) k
+            ↔ AcceptsIn dfa.now.run pass.new.list.items y k }
+        ensures list { IsListOfStates dfa.now.run pass.new.list.items }
+        ensures ends { HasEnds dfa.now.run self.now row pass.new.ends }
 
         // The visits are bounded, and do not become fewer.
-        ensures visits { visits.new ≤ visits.old + size automaton.now }
+        ensures visits { visits.new ≤ visits.old + size dfa.now.run }
         ensures counted { visits.old ≤ visits.new }
     {
         let states = states_at(&self.starts, &self.lists, row);
-        self.from.clear();
-        put_states(states, &mut self.from);
+        pass.from.clear();
+        put_states(states, &mut pass.from);
         read(
-            automaton,
+            dfa.automaton(),
             byte,
-            &mut self.from,
-            &mut self.list,
-            &mut self.ends,
+            &mut pass.from,
+            &mut pass.list,
+            &mut pass.ends,
             visits,
         );
-        put_in_order(&mut self.list);
+        put_in_order(&mut pass.list);
     }
 
     /// Writes an entry of a row.
-    fn write(&mut self, row: usize, column: usize, entry: u32)
-        // The row and the column are there.
+    fn write(&mut self, dfa: &Dfa, row: usize, column: usize, entry: u32)
+        // The rows are right for the automaton, and the row and the column are there. The entry is right for them.
+        requires sound { IsSound dfa.now self.old }
         requires row { row < length self.old.starts.items }
-        requires column { column ≤ self.old.class_count }
-        requires len { length self.old.entries.items
-            ≡ length self.old.starts.items * (self.old.class_count + 1) }
+        requires column { column ≤ dfa.now.class_count }
+        requires entry { IsEntry dfa.now self.old row column entry }
 
-        // The rows stay right if the entry is. None is forgotten, and `ends` does not change.
-        ensures sound { (m : NfaValue) → IsSound m self.old → IsEntry m self.old row column entry
-            → IsSound m self.new }
+        // The rows stay right, and none is forgotten.
+        ensures sound { IsSound dfa.now self.new }
         ensures kept { KeepsRows self.old self.new }
-        ensures ends { self.new.ends ≡ self.old.ends }
     {
-        self.entries[row * (self.class_count + 1) + column] = entry;
+        self.entries[row * (dfa.class_count() + 1) + column] = entry;
     }
 
-    /// Returns the row of the states in `list`, and makes it if it is not there, which is one visit. If there is no room for it, all
+    /// Returns the row of the states in a list, and makes it if it is not there, which is one visit. If there is no room for it, all
     /// rows are forgotten before.
-    fn seek(&mut self, automaton: &Nfa, visits: &mut Visits) -> Found
+    fn seek(&mut self, dfa: &Dfa, list: &[u32], visits: &mut Visits) -> Found
         // The rows are right for the automaton. The list has states alone, at most as many as there are, and ascends.
-        requires sound { IsSound automaton.now self.old }
-        requires below { AreBelow (size automaton.now) self.old.list.items }
-        requires few { length self.old.list.items ≤ size automaton.now }
-        requires ordered { IsStrictlyIncreasing self.old.list.items }
+        requires sound { IsSound dfa.now self.old }
+        requires list { IsListOfStates dfa.now.run list.now }
 
         // The rows stay right, and the row at the place leads to the ends that the states in the list lead to.
-        ensures sound { IsSound automaton.now self.new }
-        ensures row { IsRowOf automaton.now (AcceptsIn automaton.now self.old.list.items) self.new
-            result.place }
+        ensures sound { IsSound dfa.now self.new }
+        ensures row { IsRowOf dfa.now (AcceptsIn dfa.now.run list.now) self.new result.place }
 
-        // No row is forgotten if the result says so, `ends` does not change, and the look-up is one visit.
+        // No row is forgotten if the result says so, and the look-up is one visit.
         ensures kept { IsTrue result.is_kept → KeepsRows self.old self.new }
-        ensures ends { self.new.ends ≡ self.old.ends }
         ensures visits { visits.new ≡ visits.old + 1 }
     {
         visits.tick();
-        let hash = hash_of(self.seed, &self.list);
-        if let Some(row) = self.known(hash) {
+        let hash = hash_of(self.seed, list);
+        if let Some(row) = self.known(hash, list) {
             return Found {
-                place: row * (self.class_count + 1),
+                place: row * (dfa.class_count() + 1),
                 is_kept: true,
             };
         }
-        let room = self.make_room(automaton, hash);
-        let row = self.add(automaton, room.place);
+        let room = self.make_room(dfa, hash, list);
+        let row = self.add(dfa, list, room.place);
         Found {
-            place: row * (self.class_count + 1),
+            place: row * (dfa.class_count() + 1),
             is_kept: room.is_kept,
         }
     }
 
-    /// Returns the row of the states in `list`, or `None` if there is none.
-    fn known(&self, hash: u64) -> Option<usize>
+    /// Returns the row of the states in a list, whose hash is given, or `None` if there is none.
+    fn known(&self, hash: u64, list: &[u32]) -> Option<usize>
         requires listed { AreListed self.now }
         requires index { IsIndexed self.now.table.items self.now.seed self.now.starts.items
             self.now.lists.items }
-        requires hash { hash ≡ list_hash self.now.seed self.now.list.items }
-        ensures { MatchOption result (HasNoRow self.now self.now.list.items)
-            (λ i. (i < length self.now.starts.items)
-            × (states_of self.now i ≡ self.now.list.items)) }
+        requires hash { hash ≡ list_hash self.now.seed list.now }
+        ensures { MatchOption result (HasNoRow self.now list.now)
+            (λ i. (i < length self.now.starts.items) × (states_of self.now i ≡ list.now)) }
     {
         for probe in 0..PROBES {
             let number = self.table[place_of(hash, probe, self.table.len())] as usize;
@@ -506,33 +453,28 @@ impl Rows {
                 return None;
             }
             let row = number - 1;
-            if row < self.starts.len()
-                && states_at(&self.starts, &self.lists, row) == self.list.as_slice()
-            {
+            if row < self.starts.len() && states_at(&self.starts, &self.lists, row) == list {
                 return Some(row);
             }
         }
         None
     }
 
-    /// Makes room for a row of the states in `list`, whose hash is given, and returns the place for its number in the table. If there
+    /// Makes room for a row of the states in a list, whose hash is given, and returns the place for its number in the table. If there
     /// is none for the row, its list or its number, all rows are forgotten.
-    fn make_room(&mut self, automaton: &Nfa, hash: u64) -> Room
+    fn make_room(&mut self, dfa: &Dfa, hash: u64, list: &[u32]) -> Room
         // The rows are right for the automaton and stay so, and there is room for the row afterwards.
-        requires sound { IsSound automaton.now self.old }
-        requires few { length self.old.list.items ≤ size automaton.now }
-        requires hash { hash ≡ list_hash self.old.seed self.old.list.items }
-        ensures sound { IsSound automaton.now self.new }
-        ensures space { HasSpace self.new result.place }
+        requires sound { IsSound dfa.now self.old }
+        requires few { length list.now ≤ size dfa.now.run }
+        requires hash { hash ≡ list_hash self.old.seed list.now }
+        ensures sound { IsSound dfa.now self.new }
+        ensures space { HasSpace dfa.now self.new list.now result.place }
 
-        // No row is forgotten if the result says so, and none is added. `list` and `ends` do not change.
+        // No row is forgotten if the result says so, and none is added.
         ensures kept { IsTrue result.is_kept → KeepsRows self.old self.new }
-        ensures none { HasNoRow self.old self.old.list.items → HasNoRow self.new self.old.list.items }
-        ensures list { self.new.list ≡ self.old.list }
-        ensures ends { self.new.ends ≡ self.old.ends }
+        ensures none { HasNoRow self.old list.now → HasNoRow self.new list.now }
     {
-        let _automaton = automaton;
-        if let Some(place) = self.find_place(hash) {
+        if let Some(place) = self.find_place(dfa, hash, list) {
             return Room {
                 place,
                 is_kept: true,
@@ -544,39 +486,39 @@ impl Rows {
         self.begin = None;
         self.table.fill(0);
         self.seed = self.seed.wrapping_add(1);
-        let hash = hash_of(self.seed, &self.list);
+        let hash = hash_of(self.seed, list);
         Room {
             place: place_of(hash, 0, self.table.len()),
             is_kept: false,
         }
     }
 
-    /// Returns a free place of the table for the number of a row of the states in `list`, whose hash is given, if there is room for the
+    /// Returns a free place of the table for the number of a row of the states in a list, whose hash is given, if there is room for the
     /// row, its list and its number. Widens the table if it is half full. Without a result the table may lack rows.
-    fn find_place(&mut self, hash: u64) -> Option<usize>
+    fn find_place(&mut self, dfa: &Dfa, hash: u64, list: &[u32]) -> Option<usize>
         // The lists of rows are there, each row is found, and the hash is that of the list.
         requires listed { AreListed self.old }
         requires index { IsIndexed self.old.table.items self.old.seed self.old.starts.items
             self.old.lists.items }
         requires few { length self.old.starts.items ≤ max_entries }
         requires small { length self.old.entries.items ≤ max_entries }
-        requires hash { hash ≡ list_hash self.old.seed self.old.list.items }
+        requires hash { hash ≡ list_hash self.old.seed list.now }
 
         // Only the table changes, and it still has a place. With a result there is room, and each row is found.
         ensures same { self.new ≡ with_table_of self.old self.new }
         ensures some { 0 < length self.new.table.items }
-        ensures space { IfSome result (HasSpace self.new) }
+        ensures space { IfSome result (HasSpace dfa.now self.new list.now) }
         ensures found { IfSome result (λ _. AreFound self.new.table.items self.old.seed
             self.old.starts.items self.old.lists.items (length self.old.starts.items)) }
     {
         let places = self.lists.capacity().min(MAX_PLACES);
-        if places.saturating_sub(self.lists.len()) <= self.list.len() {
+        if places.saturating_sub(self.lists.len()) <= list.len() {
             return None;
         }
         if self.starts.len() >= self.starts.capacity().min(MAX_ENTRIES) {
             return None;
         }
-        if self.entries.capacity().min(MAX_ENTRIES) - self.entries.len() <= self.class_count {
+        if self.entries.capacity().min(MAX_ENTRIES) - self.entries.len() <= dfa.class_count() {
             return None;
         }
         if !widen_if_full(&mut self.table, self.seed, &self.starts, &self.lists) {
@@ -585,33 +527,27 @@ impl Rows {
         free_place(&self.table, hash)
     }
 
-    /// Adds a row of the states in `list`, none of whose entries is known, and puts its number into the table at a place. Returns the
+    /// Adds a row of the states in a list, none of whose entries is known, and puts its number into the table at a place. Returns the
     /// number.
-    fn add(&mut self, automaton: &Nfa, place: usize) -> usize
-        // The rows are right for the automaton, with room for one more. The list has states alone, at most as many as there are.
-        requires sound { IsSound automaton.now self.old }
-        requires space { HasSpace self.old place }
-        requires below { AreBelow (size automaton.now) self.old.list.items }
-        requires few { length self.old.list.items ≤ size automaton.now }
+    fn add(&mut self, dfa: &Dfa, list: &[u32], place: usize) -> usize
+        // The rows are right for the automaton, with room for one more. The list has states alone, ascends, and no row has it.
+        requires sound { IsSound dfa.now self.old }
+        requires space { HasSpace dfa.now self.old list.now place }
+        requires list { IsListOfStates dfa.now.run list.now }
+        requires none { HasNoRow self.old list.now }
 
-        // The list ascends, and no row has it.
-        requires ordered { IsStrictlyIncreasing self.old.list.items }
-        requires none { HasNoRow self.old self.old.list.items }
-
-        // The rows stay right, none is forgotten, `ends` does not change, and the result is the row of the states in the list.
-        ensures sound { IsSound automaton.now self.new }
+        // The rows stay right, none is forgotten, and the result is the row of the states in the list.
+        ensures sound { IsSound dfa.now self.new }
         ensures row { result < length self.new.starts.items }
-        ensures states { states_of self.new result ≡ self.old.list.items }
+        ensures states { states_of self.new result ≡ list.now }
         ensures kept { KeepsRows self.old self.new }
-        ensures ends { self.new.ends ≡ self.old.ends }
     {
-        let _automaton = automaton;
         let row = self.starts.len();
         let start = self.lists.len();
-        push_within(&mut self.lists, self.list.len());
-        extend_within(&mut self.lists, &self.list);
+        push_within(&mut self.lists, list.len());
+        extend_within(&mut self.lists, list);
         push_within(&mut self.starts, start);
-        zeros_within(&mut self.entries, self.class_count + 1);
+        zeros_within(&mut self.entries, dfa.class_count() + 1);
         self.table[place] = row as u32 + 1;
         row
     }
@@ -629,14 +565,15 @@ fn states_at<'a>(starts: &[u32], lists: &'a [u32], row: usize) -> &'a [u32]
     &lists[start + 1..start + 1 + count]
 }
 
-/// Returns for how much there is room within so many bytes, where some numbers are taken for lists beside those of rows.
-fn room_within(bytes: usize, width: usize, states: usize, taken: usize) -> Limits
-    requires width { width ≤ 257 }
-    requires fits { states < 4294967296 }
+/// Returns for how many rows of an automaton there is room within so many bytes, beside the lists of a pass.
+fn room_within(dfa: &Dfa, bytes: usize) -> Limits
     ensures rows { 0 < result.rows }
-    ensures listed { states < result.listed }
+    ensures listed { size dfa.now.run < result.listed }
 {
     let number = mem::size_of::<u32>();
+    let width = dfa.class_count() + 1;
+    let states = dfa.state_count();
+    let taken = Pass::numbers(dfa);
     // At most one half is for lists, unless that is too small for the least room. The rest is for rows, and at least a quarter.
     let listed = (bytes / 2 / number).saturating_sub(taken).max(states + 1);
     let rest = bytes
@@ -656,12 +593,9 @@ fn room_within(bytes: usize, width: usize, states: usize, taken: usize) -> Limit
 
 /// Returns a number of bytes from which on [`room_within`] returns no more room than fits: three quarters of so many are enough for
 /// the lists that there is always room for, and one for a row of the most entries.
-pub fn least_bytes(automaton: &Nfa, found: usize) -> usize {
-    let states = automaton.state_count().saturating_mul(2).saturating_add(1);
-    let taken = found
-        .saturating_mul(2)
-        .saturating_add(automaton.starts().len());
-    let listed = states.saturating_add(taken) / 3 + 1;
+pub fn least_bytes(dfa: &Dfa) -> usize {
+    let states = dfa.state_count().saturating_add(1);
+    let listed = states.saturating_add(Pass::numbers(dfa)) / 3 + 1;
     listed
         .max(257 + 3)
         .saturating_mul(4 * mem::size_of::<u32>())

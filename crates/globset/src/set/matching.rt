@@ -117,7 +117,7 @@ impl GlobSet {
     /// that is stepped. The vector grows for the indexes.
     ///
     /// It may also make a cache for each of these automata, within [`dfa_size_limit`](crate::GlobSetBuilder::dfa_size_limit). Visits
-    /// do not count that: it reads each state of the automaton, clears the cache's memory, and copies published rows.
+    /// do not count that: it clears the cache's memory, and copies published rows.
     ///
     /// After an error the vector is empty. It allocates nothing if the set has no globs.
     pub fn matches_visits(

@@ -10,6 +10,7 @@ use Rattle.bit_sets.specs.Numbers.{has_number, AreBelow}
 use Rattle.bit_sets.specs.StateSets.{has_state, state_capacity}
 use Rattle.bit_sets.specs.declared.state_set.StateSet.{StateSet}
 use Rattle.byte_nfa.specs.Steps.{NfaValue, IsReached, state}
+use Rattle.lazy_dfa.specs.DfaValue.{DfaValue}
 use Rattle.byte_nfa.specs.Equivalent.{AreEquivalent, reads_byte}
 use Rattle.byte_nfa.proofs.lemmas.Equivalent.{accepts_equivalent}
 use Rattle.byte_nfa.specs.Runs.{size, AcceptsFrom, AcceptsIn}
@@ -27,7 +28,8 @@ use Rattle.std.specs.List.Sorted.{IsStrictlyIncreasing}
 use Rattle.lazy_dfa.specs.inner.Hashes.{list_hash}
 use Rattle.lazy_dfa.specs.inner.Index.{IsFree, IsIndexed}
 use Rattle.lazy_dfa.proofs.lemmas.Index.{index_added, index_kept}
-use Rattle.lazy_dfa.specs.inner.Rows.{AcceptsRow, HasNoRow, IsNext, IsEnd, IsEntry, IsEntryBy, IsSound, HasEnds, HasMarks, GoesTo, IsDeadBy, HasRoomFor, marked, KeepsRows, states_of, place_of, max_entries, IsAt, BeginsAt, IsStep, LeadsTo, MarksAre}
+use Rattle.lazy_dfa.specs.inner.Dfa.{IsDfa}
+use Rattle.lazy_dfa.specs.inner.Rows.{AcceptsRow, HasNoRow, IsNext, IsEnd, IsEntry, IsEntryBy, IsSound, HasEnds, HasMarks, GoesTo, IsDeadBy, HasRoomForOne, marked, KeepsRows, states_of, place_of, max_entries, IsAt, BeginsAt, IsStep, LeadsTo, MarksAre}
 
 -- places of entries
 
@@ -77,62 +79,58 @@ pub accepts_kept : (m : NfaValue) (old new : Rows) (i : ℕ) (y : List ℕ) (k :
 accepts_kept m old new i y k same = (λ a. subst (λ l. AcceptsIn m l y k) (sym same) a, λ a. subst (λ l. AcceptsIn m l y k) same a)
 
 -- a row that is still there is where it was
-pub at_kept : (old new : Rows) (j p : ℕ) → KeepsRows old new → IsAt old j p → IsAt new j p
-at_kept old new j p keeps (lt, is) = ((let more = keeps.more in omega arith), rw keeps.class_count is)
+pub at_kept : (d : DfaValue) (old new : Rows) (j p : ℕ) → KeepsRows old new → IsAt d old j p → IsAt d new j p
+at_kept d old new j p keeps (lt, is) = ((let more = keeps.more in omega arith), is)
 
 -- an entry is right where rows were added
-module _ (m : NfaValue) (old new : Rows) (i : ℕ) (keeps : KeepsRows old new) (lt : i < length old.starts.items) where
-  pub marks_still : HasMarks m old i → HasMarks m new i
-  marks_still (k, low, a) = (k, low, (accepts_kept m old new i [] (half m + k) (keeps.states i lt)).0 a)
+module _ (d : DfaValue) (old new : Rows) (i : ℕ) (keeps : KeepsRows old new) (lt : i < length old.starts.items) where
+  pub marks_still : HasMarks d.run old i → HasMarks d.run new i
+  marks_still (k, low, a) = (k, low, (accepts_kept d.run old new i [] (half d.run + k) (keeps.states i lt)).0 a)
 
-  pub marks_before : HasMarks m new i → HasMarks m old i
-  marks_before (k, low, a) = (k, low, (accepts_kept m old new i [] (half m + k) (keeps.states i lt)).1 a)
+  pub marks_before : HasMarks d.run new i → HasMarks d.run old i
+  marks_before (k, low, a) = (k, low, (accepts_kept d.run old new i [] (half d.run + k) (keeps.states i lt)).1 a)
 
-  next_kept : (b e : ℕ) → IsNext m old i b e → IsNext m new i b e
+  next_kept : (b e : ℕ) → IsNext d old i b e → IsNext d new i b e
   next_kept b e is = record {
-    dead = λ d y k h. is.dead d y k (subst (λ l. AcceptsIn m l (b ∷ y) k) (keeps.states i lt) h);
+    dead = λ one y k h. is.dead one y k (subst (λ l. AcceptsIn d.run l (b ∷ y) k) (keeps.states i lt) h);
     row = λ some.
         let (j, at, goes) = is.row some in (
           j,
-          at_kept old new j (e - 2) keeps at,
-          λ y k. subst (λ l. AcceptsIn m l (b ∷ y) k ↔ AcceptsRow m new j y k) (sym (keeps.states i lt))
-              (subst (λ l. AcceptsRow m old i (b ∷ y) k ↔ AcceptsIn m l y k) (sym (keeps.states j at.0)) (goes y k)),
+          at_kept d old new j (e - 2) keeps at,
+          λ y k. subst (λ l. AcceptsIn d.run l (b ∷ y) k ↔ AcceptsRow d.run new j y k) (sym (keeps.states i lt))
+              (subst (λ l. AcceptsRow d.run old i (b ∷ y) k ↔ AcceptsIn d.run l y k) (sym (keeps.states j at.0)) (goes y k)),
         );
   }
 
-  pub end_kept : (e : ℕ) → IsEnd m old i e → IsEnd m new i e
+  pub end_kept : (e : ℕ) → IsEnd d.run old i e → IsEnd d.run new i e
   end_kept e is = record {
-    none = λ d k low h. is.none d k low (subst (λ l. AcceptsIn m l [] k) (keeps.states i lt) h);
-    some = λ known. let (k, low, a) = is.some known in (k, low, (accepts_kept m old new i [] k (keeps.states i lt)).0 a);
-    listed = λ known. list_of_iff new.lists.items (half m + half m) (e - 2) (AcceptsRow m old i []) (AcceptsRow m new i []) (λ k. accepts_kept m old new i [] k (keeps.states i lt))
-        (Lists.list_kept old.lists.items new.lists.items (half m + half m) (e - 2) (AcceptsRow m old i []) keeps.lists (is.listed known));
+    none = λ one k low h. is.none one k low (subst (λ l. AcceptsIn d.run l [] k) (keeps.states i lt) h);
+    some = λ known. let (k, low, a) = is.some known in (k, low, (accepts_kept d.run old new i [] k (keeps.states i lt)).0 a);
+    listed = λ known. list_of_iff new.lists.items (half d.run + half d.run) (e - 2) (AcceptsRow d.run old i []) (AcceptsRow d.run new i []) (λ k. accepts_kept d.run old new i [] k (keeps.states i lt))
+        (Lists.list_kept old.lists.items new.lists.items (half d.run + half d.run) (e - 2) (AcceptsRow d.run old i []) keeps.lists (is.listed known));
   }
 
-  pub entry_kept : (c e : ℕ) → IsEntry m old i c e → IsEntry m new i c e
+  pub entry_kept : (c e : ℕ) → IsEntry d old i c e → IsEntry d new i c e
   entry_kept c e is = record {
     byte = λ b byte class.
-        let by = is.byte b byte (ap (λ l. slice_index l b) (sym keeps.class_of) ∙ class) in
+        let by = is.byte b byte class in
         record {
           plain = λ low. let (quiet, next) = by.plain low in (λ h. quiet (marks_before h), next_kept b e next);
           marks = λ high. let (marks, some, next) = by.marks high in (marks_still marks, some, next_kept b (e - marked) next);
         };
-    end = λ column. end_kept e (is.end (column ∙ keeps.class_count));
+    end = λ column. end_kept e (is.end column);
   }
 
--- the rows are the same, beside the memory that a step needs
+-- the rows are the same, beside the table
 pub record HasSameRows (old new : Rows) : Type 0 where
   pub starts : new.starts.items ≡ old.starts.items
   pub lists : new.lists.items ≡ old.lists.items
-  pub class_of : new.class_of ≡ old.class_of
-  pub class_count : new.class_count ≡ old.class_count
 
 pub same_keeps : (old new : Rows) → HasSameRows old new → KeepsRows old new
 same_keeps old new is = record {
   more = rw is.starts (omega arith);
   states = λ i lt. rw (is.lists, is.starts) refl;
   lists = rw is.lists (omega arith, λ n place list. (list, refl, refl));
-  class_of = is.class_of;
-  class_count = is.class_count;
 }
 
 -- rows are found by their lists
@@ -140,50 +138,45 @@ abbrev pub Indexed : Rows → Type 0
 Indexed rows = IsIndexed rows.table.items rows.seed rows.starts.items rows.lists.items
 
 -- where a run begins
-abbrev pub Begins : NfaValue → Rows → Type 0
-Begins m rows = (p : ℕ) → rows.begin ≡ Some p → BeginsAt m rows p
+abbrev pub Begins : DfaValue → Rows → Type 0
+Begins d rows = (p : ℕ) → rows.begin ≡ Some p → BeginsAt d rows p
 
-pub begins_at_kept : (m : NfaValue) (old new : Rows) (p : ℕ) → KeepsRows old new → BeginsAt m old p → BeginsAt m new p
-begins_at_kept m old new p keeps (j, at, begins) =
-    (j, at_kept old new j p keeps at, λ y k. subst (λ l. AcceptsIn m l y k ↔ IsReached m y k) (sym (keeps.states j at.0)) (begins y k))
+pub begins_at_kept : (d : DfaValue) (old new : Rows) (p : ℕ) → KeepsRows old new → BeginsAt d old p → BeginsAt d new p
+begins_at_kept d old new p keeps (j, at, begins) =
+    (j, at_kept d old new j p keeps at, λ y k. subst (λ l. AcceptsIn d.run l y k ↔ IsReached d.run y k) (sym (keeps.states j at.0)) (begins y k))
 
-begins_kept : (m : NfaValue) (old new : Rows) → HasSameRows old new → new.begin ≡ old.begin → Begins m old → Begins m new
-begins_kept m old new is begin before p at = begins_at_kept m old new p (same_keeps old new is) (before p (sym begin ∙ at))
+begins_kept : (d : DfaValue) (old new : Rows) → HasSameRows old new → new.begin ≡ old.begin → Begins d old → Begins d new
+begins_kept d old new is begin before p at = begins_at_kept d old new p (same_keeps old new is) (before p (sym begin ∙ at))
 
-pub begun_sound : (m : NfaValue) (old new : Rows) → HasSameRows old new → new.entries.items ≡ old.entries.items → Indexed new → HasRoomFor m new → Begins m new → IsSound m old → IsSound m new
-begun_sound m old new is entries index room begins sound = record {
-  fits = sound.fits;
+pub begun_sound : (d : DfaValue) (old new : Rows) → HasSameRows old new → new.entries.items ≡ old.entries.items → Indexed new → HasRoomForOne d new → Begins d new → IsSound d old → IsSound d new
+begun_sound d old new is entries index room begins sound = record {
+  dfa = sound.dfa;
   room = room;
-  representatives = sound.representatives;
-  classes = rw (is.class_of, is.class_count) sound.classes;
   few = rw is.starts sound.few;
   small = rw entries sound.small;
   index = index;
   lists = rw (is.starts, is.lists) sound.lists;
   counts = rw (is.starts, is.lists) sound.counts;
-  len = rw (is.starts, is.class_count, entries) sound.len;
+  len = rw (is.starts, entries) sound.len;
   known = λ i c lt hc some.
-      let same : slice_index new.entries.items (place_of new i c) ≡ slice_index old.entries.items (place_of old i c) = rw (is.class_count, entries) refl in
+      let same : slice_index new.entries.items (place_of d i c) ≡ slice_index old.entries.items (place_of d i c) = rw entries refl in
       let before : i < length old.starts.items = rw is.starts at lt in
-      let short : c ≤ old.class_count = rw is.class_count at hc in
-      subst (IsEntry m new i c) (sym same) (entry_kept m old new i (same_keeps old new is) before c (slice_index old.entries.items (place_of old i c)) (sound.known i c before short (subst (λ x. 0 < x) same some)));
+      subst (IsEntry d new i c) (sym same) (entry_kept d old new i (same_keeps old new is) before c (slice_index old.entries.items (place_of d i c)) (sound.known i c before hc (subst (λ x. 0 < x) same some)));
   begins = begins;
 }
 
-pub same_sound : (m : NfaValue) (old new : Rows) → HasSameRows old new → new.entries.items ≡ old.entries.items → new.begin ≡ old.begin → Indexed new → HasRoomFor m new → IsSound m old → IsSound m new
-same_sound m old new is entries begin index room sound = begun_sound m old new is entries index room (begins_kept m old new is begin sound.begins) sound
+pub same_sound : (d : DfaValue) (old new : Rows) → HasSameRows old new → new.entries.items ≡ old.entries.items → new.begin ≡ old.begin → Indexed new → HasRoomForOne d new → IsSound d old → IsSound d new
+same_sound d old new is entries begin index room sound = begun_sound d old new is entries index room (begins_kept d old new is begin sound.begins) sound
 
 -- all rows were forgotten
-pub emptied_sound : (m : NfaValue) (old new : Rows) → new.starts.items ≡ [] → new.entries.items ≡ [] → new.begin ≡ None → 0 < length new.table.items
-    → new.class_of ≡ old.class_of → new.class_count ≡ old.class_count → HasRoomFor m new → IsSound m old → IsSound m new
-emptied_sound m old new starts entries begin some class_of class_count room sound =
+pub emptied_sound : (d : DfaValue) (old new : Rows) → new.starts.items ≡ [] → new.entries.items ≡ [] → new.begin ≡ None → 0 < length new.table.items
+    → HasRoomForOne d new → IsSound d old → IsSound d new
+emptied_sound d old new starts entries begin some room sound =
     let none : length new.starts.items ≡ 0 = ap length starts in
     let empty : length new.entries.items ≡ 0 = ap length entries in
     record {
-      fits = sound.fits;
+      dfa = sound.dfa;
       room = room;
-      representatives = sound.representatives;
-      classes = rw (class_of, class_count) sound.classes;
       few = omega (arith, none);
       small = omega (arith, empty);
       index = record {
@@ -202,47 +195,13 @@ emptied_sound m old new starts entries begin some class_of class_count room soun
     none_some : (p : ℕ) → None ≡ Some p → ⊥
     none_some p is = true≢false (sym (ap is_some is))
 
--- rows with other sets of states
-abbrev pub with_sets : Rows → StateSet → StateSet → Rows
-with_sets rows from next = record {
-  class_of = rows.class_of;
-  class_count = rows.class_count;
-  starts = rows.starts;
-  lists = rows.lists;
-  entries = rows.entries;
-  table = rows.table;
-  seed = rows.seed;
-  begin = rows.begin;
-  first = rows.first;
-  from = from;
-  next = next;
-  ends = rows.ends;
-  list = rows.list;
-  told = rows.told;
-}
-
-pub sets_sound : (m : NfaValue) (rows : Rows) (from next : StateSet) → size m ≤ state_capacity from → size m ≤ state_capacity next → IsSound m rows → IsSound m (with_sets rows from next)
-sets_sound m rows from next in_from in_next sound =
-    let room = sound.room in
-    same_sound m rows (with_sets rows from next) record { starts = refl; lists = refl; class_of = refl; class_count = refl } refl refl sound.index record {
-      from = in_from;
-      next = in_next;
-      first = room.first;
-      ends = room.ends;
-      list = room.list;
-      lists = room.lists;
-      starts = room.starts;
-      entries = room.entries;
-      width = room.width;
-    } sound
-
 -- an entry was written
-pub entry_written : (m : NfaValue) (rows : Rows) (entries : List ℕ) (w n row column e i c : ℕ) → length entries ≡ n * (w + 1) → row < n → column ≤ w → c ≤ w
-    → IsEntry m rows row column e → ((j d : ℕ) → j < n → d ≤ w → 0 < slice_index entries (j * (w + 1) + d) → IsEntry m rows j d (slice_index entries (j * (w + 1) + d)))
-    → i < n → 0 < slice_index (slice_set entries (row * (w + 1) + column) e) (i * (w + 1) + c) → IsEntry m rows i c (slice_index (slice_set entries (row * (w + 1) + column) e) (i * (w + 1) + c))
-entry_written m rows entries w n row column e i c len here hcol hc is known lt some = ⊎_elim {C = IsEntry m rows i c (slice_index new at)}
+pub entry_written : (d : DfaValue) (rows : Rows) (entries : List ℕ) (w n row column e i c : ℕ) → length entries ≡ n * (w + 1) → row < n → column ≤ w → c ≤ w
+    → IsEntry d rows row column e → ((j x : ℕ) → j < n → x ≤ w → 0 < slice_index entries (j * (w + 1) + x) → IsEntry d rows j x (slice_index entries (j * (w + 1) + x)))
+    → i < n → 0 < slice_index (slice_set entries (row * (w + 1) + column) e) (i * (w + 1) + c) → IsEntry d rows i c (slice_index (slice_set entries (row * (w + 1) + column) e) (i * (w + 1) + c))
+entry_written d rows entries w n row column e i c len here hcol hc is known lt some = ⊎_elim {C = IsEntry d rows i c (slice_index new at)}
     (λ low. other (omega arith))
-    (λ ge. ⊎_elim {C = IsEntry m rows i c (slice_index new at)} (λ high. other (omega arith)) (λ le. this (omega arith)) (cases_lt place at))
+    (λ ge. ⊎_elim {C = IsEntry d rows i c (slice_index new at)} (λ high. other (omega arith)) (λ le. this (omega arith)) (cases_lt place at))
     (cases_lt at place)
   where
     place : ℕ
@@ -254,17 +213,17 @@ entry_written m rows entries w n row column e i c len here hcol hc is known lt s
     new : List ℕ
     new = slice_set entries place e
 
-    other : at ≢ place → IsEntry m rows i c (slice_index new at)
+    other : at ≢ place → IsEntry d rows i c (slice_index new at)
     other ne =
         let same : slice_index new at ≡ slice_index entries at = get_or-set_other entries place at e 0 ne in
-        subst (IsEntry m rows i c) (sym same) (known i c lt hc (subst (λ x. 0 < x) same some))
+        subst (IsEntry d rows i c) (sym same) (known i c lt hc (subst (λ x. 0 < x) same some))
 
-    this : at ≡ place → IsEntry m rows i c (slice_index new at)
+    this : at ≡ place → IsEntry d rows i c (slice_index new at)
     this same =
         let room = place_within row column n w here hcol in
         let (is_row, is_column) = same_place i c row column w hc hcol same in
         let value : slice_index new at ≡ e = ap (slice_index new) same ∙ get_or-set_same entries place e 0 (omega arith) in
-        subst (IsEntry m rows i c) (sym value) (subst (λ x. IsEntry m rows x c e) (sym is_row) (subst (λ x. IsEntry m rows row x e) (sym is_column) is))
+        subst (IsEntry d rows i c) (sym value) (subst (λ x. IsEntry d rows x c e) (sym is_row) (subst (λ x. IsEntry d rows row x e) (sym is_column) is))
 
 -- the entries of a row that was added are not known
 
@@ -283,27 +242,23 @@ entries_more entries w n i c len lt hc some = ⊎_elim {C = (i < n) × (slice_in
     (cases_lt i n)
 
 -- a row was added, of the states of a list, and its number was put into the table
-pub record HasAdded (old new : Rows) (list : List ℕ) (place : ℕ) : Type 0 where
+pub record HasAdded (d : DfaValue) (old new : Rows) (list : List ℕ) (place : ℕ) : Type 0 where
   pub lists : new.lists.items ≡ old.lists.items ++ length list ∷ list
   pub starts : new.starts.items ≡ old.starts.items ++ length old.lists.items ∷ []
-  pub entries : new.entries.items ≡ old.entries.items ++ replicate (old.class_count + 1) 0
+  pub entries : new.entries.items ≡ old.entries.items ++ replicate (d.class_count + 1) 0
   pub table : new.table.items ≡ slice_set old.table.items place (length old.starts.items + 1)
   pub seed : new.seed ≡ old.seed
-  pub class_of : new.class_of ≡ old.class_of
-  pub class_count : new.class_count ≡ old.class_count
   pub begin : new.begin ≡ old.begin
 
-module _ (m : NfaValue) (old new : Rows) (list : List ℕ) (place : ℕ) (is : HasAdded old new list place) (sound : IsSound m old) where
+module _ (d : DfaValue) (old new : Rows) (list : List ℕ) (place : ℕ) (is : HasAdded d old new list place) (sound : IsSound d old) where
   more_starts : length new.starts.items ≡ length old.starts.items + 1
   more_starts = ap length is.starts ∙ length-append old.starts.items (length old.lists.items ∷ [])
 
   pub added_keeps : KeepsRows old new
   added_keeps = record {
     more = omega (arith, more_starts);
-    states = λ i lt. rw (is.lists, is.starts) (list_kept old.lists.items (length list ∷ list) old.starts.items (length old.lists.items ∷ []) (size m) i lt (sound.lists i lt)).0;
+    states = λ i lt. rw (is.lists, is.starts) (list_kept old.lists.items (length list ∷ list) old.starts.items (length old.lists.items ∷ []) (size d.run) i lt (sound.lists i lt)).0;
     lists = rw is.lists (keeps_lists old.lists.items (length list ∷ list));
-    class_of = is.class_of;
-    class_count = is.class_count;
   }
 
   last_start : slice_index new.starts.items (length old.starts.items) ≡ length old.lists.items
@@ -322,53 +277,49 @@ module _ (m : NfaValue) (old new : Rows) (list : List ℕ) (place : ℕ) (is : H
   pub added_states : states_of new (length old.starts.items) ≡ list
   added_states = ap (list_at new.lists.items) last_start ∙ last_list
 
-  new_list : AreBelow (size m) list → IsList new.lists.items (size m) (length old.lists.items)
+  new_list : AreBelow (size d.run) list → IsList new.lists.items (size d.run) (length old.lists.items)
   new_list below = record {
     room = let len = ap length is.lists in let both = length-append old.lists.items (length list ∷ list) in omega (arith, last_count);
-    below = subst (λ l. (x : ℕ) → x < length l → slice_index l x < size m) (sym last_list) below;
+    below = subst (λ l. (x : ℕ) → x < length l → slice_index l x < size d.run) (sym last_list) below;
   }
 
   added_index : IsFree old.table.items (list_hash old.seed list) place → IsStrictlyIncreasing list → HasNoRow old list → Indexed new
   added_index free ordered none =
       rw (is.table, is.seed) (index_added old.table.items old.seed old.starts.items new.starts.items old.lists.items new.lists.items list place more_starts added_keeps.states added_states free ordered none sound.index)
 
-  pub added_sound : AreBelow (size m) list → length list ≤ size m → IsFree old.table.items (list_hash old.seed list) place → IsStrictlyIncreasing list → HasNoRow old list
-      → length old.starts.items < max_entries → length old.entries.items + old.class_count < max_entries → HasRoomFor m new → IsSound m new
+  pub added_sound : AreBelow (size d.run) list → length list ≤ size d.run → IsFree old.table.items (list_hash old.seed list) place → IsStrictlyIncreasing list → HasNoRow old list
+      → length old.starts.items < max_entries → length old.entries.items + d.class_count < max_entries → HasRoomForOne d new → IsSound d new
   added_sound below short free ordered none few small room = record {
-    fits = sound.fits;
+    dfa = sound.dfa;
     room = room;
-    representatives = sound.representatives;
-    classes = rw (is.class_of, is.class_count) sound.classes;
     few = omega (arith, more_starts);
     small =
-        let both = ap length is.entries ∙ length-append old.entries.items (replicate (old.class_count + 1) 0) in
-        let zeros_len = length-replicate {A = ℕ} (old.class_count + 1) 0 in
+        let both = ap length is.entries ∙ length-append old.entries.items (replicate (d.class_count + 1) 0) in
+        let zeros_len = length-replicate {A = ℕ} (d.class_count + 1) 0 in
         omega (arith, both, zeros_len, small);
     index = added_index free ordered none;
-    lists = λ i lt. ⊎_elim {C = IsList new.lists.items (size m) (slice_index new.starts.items i)}
-        (λ before. rw (is.lists, is.starts) (list_kept old.lists.items (length list ∷ list) old.starts.items (length old.lists.items ∷ []) (size m) i before (sound.lists i before)).1)
+    lists = λ i lt. ⊎_elim {C = IsList new.lists.items (size d.run) (slice_index new.starts.items i)}
+        (λ before. rw (is.lists, is.starts) (list_kept old.lists.items (length list ∷ list) old.starts.items (length old.lists.items ∷ []) (size d.run) i before (sound.lists i before)).1)
         (λ past. let this : i ≡ length old.starts.items = omega (arith, more_starts) in
-        subst (IsList new.lists.items (size m)) (sym (ap (slice_index new.starts.items) this ∙ last_start)) (new_list below))
+        subst (IsList new.lists.items (size d.run)) (sym (ap (slice_index new.starts.items) this ∙ last_start)) (new_list below))
         (cases_lt i (length old.starts.items));
-    counts = λ i lt. ⊎_elim {C = length (states_of new i) ≤ size m}
-        (λ before. subst (λ l. length l ≤ size m) (sym (added_keeps.states i before)) (sound.counts i before))
+    counts = λ i lt. ⊎_elim {C = length (states_of new i) ≤ size d.run}
+        (λ before. subst (λ l. length l ≤ size d.run) (sym (added_keeps.states i before)) (sound.counts i before))
         (λ past. let this : i ≡ length old.starts.items = omega (arith, more_starts) in
-        subst (λ l. length l ≤ size m) (sym (ap (states_of new) this ∙ added_states)) short)
+        subst (λ l. length l ≤ size d.run) (sym (ap (states_of new) this ∙ added_states)) short)
         (cases_lt i (length old.starts.items));
     len =
-        let both = ap length is.entries ∙ length-append old.entries.items (replicate (old.class_count + 1) 0) in
-        let zeros_len = length-replicate {A = ℕ} (old.class_count + 1) 0 in
+        let both = ap length is.entries ∙ length-append old.entries.items (replicate (d.class_count + 1) 0) in
+        let zeros_len = length-replicate {A = ℕ} (d.class_count + 1) 0 in
         let old_len = sound.len in
-        rw (more_starts, is.class_count) (omega (arith, both, zeros_len, old_len));
+        rw more_starts (omega (arith, both, zeros_len, old_len));
     known = λ i c lt hc some.
-        let w = old.class_count in
-        let place : place_of new i c ≡ i * (w + 1) + c = ap (λ n. i * (n + 1) + c) is.class_count in
-        let value : slice_index new.entries.items (place_of new i c) ≡ slice_index (old.entries.items ++ replicate (w + 1) 0) (i * (w + 1) + c) = ap (slice_index new.entries.items) place ∙ ap (λ l. slice_index l (i * (w + 1) + c)) is.entries in
-        let short : c ≤ w = omega (arith, hc, is.class_count) in
-        let (before, same) = entries_more old.entries.items w (length old.starts.items) i c sound.len (omega (arith, more_starts)) short (subst (λ x. 0 < x) value some) in
-        subst (IsEntry m new i c) (sym (value ∙ same)) (entry_kept m old new i added_keeps before c (slice_index old.entries.items (i * (w + 1) + c))
-        (sound.known i c before short (subst (λ x. 0 < x) (value ∙ same) some)));
-    begins = λ p at. begins_at_kept m old new p added_keeps (sound.begins p (sym is.begin ∙ at));
+        let w = d.class_count in
+        let value : slice_index new.entries.items (place_of d i c) ≡ slice_index (old.entries.items ++ replicate (w + 1) 0) (i * (w + 1) + c) = ap (λ l. slice_index l (i * (w + 1) + c)) is.entries in
+        let (before, same) = entries_more old.entries.items w (length old.starts.items) i c sound.len (omega (arith, more_starts)) hc (subst (λ x. 0 < x) value some) in
+        subst (IsEntry d new i c) (sym (value ∙ same)) (entry_kept d old new i added_keeps before c (slice_index old.entries.items (i * (w + 1) + c))
+        (sound.known i c before hc (subst (λ x. 0 < x) (value ∙ same) some)));
+    begins = λ p at. begins_at_kept d old new p added_keeps (sound.begins p (sym is.begin ∙ at));
   }
 
 -- the look for an index in a range
@@ -382,30 +333,27 @@ in_range from end set None r is none = (
 in_range from end set (Some k) r is (low, high, at, before) = (λ _. (k, low, high, at), λ _. is)
 
 -- one entry of the rows was written
-pub written_sound : (m : NfaValue) (old new : Rows) (row column e : ℕ) → HasSameRows old new → new.entries.items ≡ slice_set old.entries.items (place_of old row column) e → new.begin ≡ old.begin → Indexed new → HasRoomFor m new
-    → row < length old.starts.items → column ≤ old.class_count → IsEntry m old row column e → IsSound m old → IsSound m new
-written_sound m old new row column e is entries begin index room here short entry sound = record {
-  fits = sound.fits;
+pub written_sound : (d : DfaValue) (old new : Rows) (row column e : ℕ) → HasSameRows old new → new.entries.items ≡ slice_set old.entries.items (place_of d row column) e → new.begin ≡ old.begin → Indexed new → HasRoomForOne d new
+    → row < length old.starts.items → column ≤ d.class_count → IsEntry d old row column e → IsSound d old → IsSound d new
+written_sound d old new row column e is entries begin index room here short entry sound = record {
+  dfa = sound.dfa;
   room = room;
-  representatives = sound.representatives;
-  classes = rw (is.class_of, is.class_count) sound.classes;
   few = rw is.starts sound.few;
-  small = let len = ap length entries ∙ length-set old.entries.items (place_of old row column) e in let before = sound.small in omega (arith, len, before);
+  small = let len = ap length entries ∙ length-set old.entries.items (place_of d row column) e in let before = sound.small in omega (arith, len, before);
   index = index;
   lists = rw (is.starts, is.lists) sound.lists;
   counts = rw (is.starts, is.lists) sound.counts;
-  len = rw (is.starts, is.class_count, entries) (length-set old.entries.items (place_of old row column) e ∙ sound.len);
+  len = rw (is.starts, entries) (length-set old.entries.items (place_of d row column) e ∙ sound.len);
   known = λ i c lt hc some.
-      let w = old.class_count in
+      let w = d.class_count in
       let n = length old.starts.items in
       let keeps = same_keeps old new is in
-      let same : slice_index new.entries.items (place_of new i c) ≡ slice_index (slice_set old.entries.items (row * (w + 1) + column) e) (i * (w + 1) + c) = rw (is.class_count, entries) refl in
+      let same : slice_index new.entries.items (place_of d i c) ≡ slice_index (slice_set old.entries.items (row * (w + 1) + column) e) (i * (w + 1) + c) = rw entries refl in
       let before : i < n = rw is.starts at lt in
-      let low : c ≤ w = rw is.class_count at hc in
-      subst (IsEntry m new i c) (sym same) (entry_written m new old.entries.items w n row column e i c
-      sound.len here short low (entry_kept m old new row keeps here column e entry)
-      (λ j d lj ld one. entry_kept m old new j keeps lj d (slice_index old.entries.items (j * (w + 1) + d)) (sound.known j d lj ld one)) before (subst (λ x. 0 < x) same some));
-  begins = begins_kept m old new is begin sound.begins;
+      subst (IsEntry d new i c) (sym same) (entry_written d new old.entries.items w n row column e i c
+      sound.len here short hc (entry_kept d old new row keeps here column e entry)
+      (λ j x lj lx one. entry_kept d old new j keeps lj x (slice_index old.entries.items (j * (w + 1) + x)) (sound.known j x lj lx one)) before (subst (λ x. 0 < x) same some));
+  begins = begins_kept d old new is begin sound.begins;
 }
 
 -- bytes of one class lead to the same ends
@@ -413,38 +361,38 @@ written_sound m old new row column e is entries begin index room here short entr
 in_equivalent : (m : NfaValue) (list : List ℕ) (b c : ℕ) (y : List ℕ) (k : ℕ) → AreEquivalent m.states b c → AcceptsIn m list (b ∷ y) k → AcceptsIn m list (c ∷ y) k
 in_equivalent m list b c y k same (t, at, h) = (t, at, accepts_equivalent m.states k b c y same t (b ∷ y) h refl)
 
-same_class : (m : NfaValue) (rows : Rows) (b c : ℕ) → IsSound m rows → b < 256 → c < 256 → slice_index rows.class_of b ≡ slice_index rows.class_of c → AreEquivalent m.states b c
-same_class m rows b c sound small small' class s =
-    let first = (sound.classes b small).1 s in
-    let second = (sound.classes c small').1 s in
-    sym first ∙ ap (λ d. reads_byte (state m.states s) (slice_index sound.representatives d)) class ∙ second
+same_class : (d : DfaValue) (b c : ℕ) → IsDfa d → b < 256 → c < 256 → slice_index d.class_of b ≡ slice_index d.class_of c → AreEquivalent d.run.states b c
+same_class d b c is small small' class s =
+    let first = (is.classes b small).1 s in
+    let second = (is.classes c small').1 s in
+    sym first ∙ ap (λ x. reads_byte (state d.run.states s) (slice_index is.representatives x)) class ∙ second
 
-next_by : (m : NfaValue) (rows : Rows) (i b c e : ℕ) → AreEquivalent m.states c b → AreEquivalent m.states b c → IsNext m rows i b e → IsNext m rows i c e
-next_by m rows i b c e there back is = record {
-  dead = λ d y k a. is.dead d y k (in_equivalent m (states_of rows i) c b y k there a);
-  row = λ some. let (j, at, goes) = is.row some in (j, at, λ y k. (λ a. (goes y k).0 (in_equivalent m (states_of rows i) c b y k there a), λ a. in_equivalent m (states_of rows i) b c y k back ((goes y k).1 a)));
+next_by : (d : DfaValue) (rows : Rows) (i b c e : ℕ) → AreEquivalent d.run.states c b → AreEquivalent d.run.states b c → IsNext d rows i b e → IsNext d rows i c e
+next_by d rows i b c e there back is = record {
+  dead = λ one y k a. is.dead one y k (in_equivalent d.run (states_of rows i) c b y k there a);
+  row = λ some. let (j, at, goes) = is.row some in (j, at, λ y k. (λ a. (goes y k).0 (in_equivalent d.run (states_of rows i) c b y k there a), λ a. in_equivalent d.run (states_of rows i) b c y k back ((goes y k).1 a)));
 }
 
 -- what an entry says of one byte, it says of each of the class
-pub entry_by : (m : NfaValue) (rows : Rows) (i b e marks : ℕ) → IsSound m rows → b < 256 → 0 < e → e < marked → MarksAre m rows i marks → IsNext m rows i b e → IsEntry m rows i (slice_index rows.class_of b) (e + marks)
-entry_by m rows i b e marks sound small some low are is = record {
+pub entry_by : (d : DfaValue) (rows : Rows) (i b e marks : ℕ) → IsDfa d → b < 256 → 0 < e → e < marked → MarksAre d.run rows i marks → IsNext d rows i b e → IsEntry d rows i (slice_index d.class_of b) (e + marks)
+entry_by d rows i b e marks dfa small some low are is = record {
   byte = λ c small' class.
-      let next = next_by m rows i b c e (same_class m rows c b sound small' small class) (same_class m rows b c sound small small' (sym class)) is in
+      let next = next_by d rows i b c e (same_class d c b dfa small' small class) (same_class d b c dfa small small' (sym class)) is in
       by_marks c are next;
-  end = λ column. absurd (let short = (sound.classes b small).0 in omega (arith, short, column));
+  end = λ column. absurd (let short = (dfa.classes b small).0 in omega (arith, short, column));
 }
   where
-    by_marks : (c : ℕ) → MarksAre m rows i marks → IsNext m rows i c e → IsEntryBy m rows i c (e + marks)
+    by_marks : (c : ℕ) → MarksAre d.run rows i marks → IsNext d rows i c e → IsEntryBy d rows i c (e + marks)
     by_marks c (inl (has, n)) next =
         let same : e ≡ e + marks - marked = omega arith in
         record {
           plain = λ less. absurd (omega (arith, less, n));
-          marks = λ _. (has, omega (arith, n), subst (IsNext m rows i c) same next);
+          marks = λ _. (has, omega (arith, n), subst (IsNext d rows i c) same next);
         }
     by_marks c (inr (none, n)) next =
         let same : e ≡ e + marks = omega arith in
         record {
-          plain = λ _. (none, subst (IsNext m rows i c) same next);
+          plain = λ _. (none, subst (IsNext d rows i c) same next);
           marks = λ more. absurd (omega (arith, more, n, low));
         }
 
@@ -458,9 +406,9 @@ marks_by_ends m rows i ends o marks is first has =
       λ (k, lt, a). some.1 (h + k, omega arith, omega arith, (has (h + k) (omega arith)).1 a),
     )
 
-pub marks_kept : (m : NfaValue) (old new : Rows) (i n : ℕ) → KeepsRows old new → i < length old.starts.items → MarksAre m old i n → MarksAre m new i n
-marks_kept m old new i n keeps lt (inl (has, is)) = inl (marks_still m old new i keeps lt has, is)
-marks_kept m old new i n keeps lt (inr (none, is)) = inr (λ h. none (marks_before m old new i keeps lt h), is)
+pub marks_kept : (d : DfaValue) (old new : Rows) (i n : ℕ) → KeepsRows old new → i < length old.starts.items → MarksAre d.run old i n → MarksAre d.run new i n
+marks_kept d old new i n keeps lt (inl (has, is)) = inl (marks_still d old new i keeps lt has, is)
+marks_kept d old new i n keeps lt (inr (none, is)) = inr (λ h. none (marks_before d old new i keeps lt h), is)
 
 -- whether something is added says whether the row has marks
 pub marks_on : (m : NfaValue) (rows : Rows) (i n : ℕ) → MarksAre m rows i n → IsTrue (ltb 0 n) ↔ HasMarks m rows i
@@ -471,107 +419,98 @@ pub ends_kept : (m : NfaValue) (old new : Rows) (i : ℕ) (ends : IndexSet) → 
 ends_kept m old new i ends keeps lt has k small = iff_trans (has k small) (accepts_kept m old new i [] k (keeps.states i lt))
 
 -- an entry that is taken
-pub next_is : (m : NfaValue) (rows : Rows) (i b e : ℕ) (o : Option ℕ) → LeadsTo e o → IsNext m rows i b e → MatchOption o (IsDeadBy m rows i b) (GoesTo m rows i b rows)
-next_is m rows i b e None one is = is.dead one
-next_is m rows i b e (Some p) (some, same) is = subst (GoesTo m rows i b rows) (sym same) (is.row some)
+pub next_is : (d : DfaValue) (rows : Rows) (i b e : ℕ) (o : Option ℕ) → LeadsTo e o → IsNext d rows i b e → MatchOption o (IsDeadBy d.run rows i b) (GoesTo d rows i b rows)
+next_is d rows i b e None one is = is.dead one
+next_is d rows i b e (Some p) (some, same) is = subst (GoesTo d rows i b rows) (sym same) (is.row some)
 
 -- where an entry leads
-pub known_is : (m : NfaValue) (rows : Rows) (i b e : ℕ) (step : Step) → IsEntryBy m rows i b e → (e < marked → IsFalse step.has_marks × LeadsTo e step.next)
-    → (marked ≤ e → IsTrue step.has_marks × LeadsTo (e - marked) step.next) → IsStep m rows i b step rows
-known_is m rows i b e step by plain marks = ⊎_elim {C = IsStep m rows i b step rows}
+pub known_is : (d : DfaValue) (rows : Rows) (i b e : ℕ) (step : Step) → IsEntryBy d rows i b e → (e < marked → IsFalse step.has_marks × LeadsTo e step.next)
+    → (marked ≤ e → IsTrue step.has_marks × LeadsTo (e - marked) step.next) → IsStep d rows i b step rows
+known_is d rows i b e step by plain marks = ⊎_elim {C = IsStep d rows i b step rows}
     (λ low.
     let (off, leads) = plain low in
     let (quiet, next) = by.plain low in
     record {
-      next = next_is m rows i b e step.next leads next;
+      next = next_is d rows i b e step.next leads next;
       marks = (λ on. absurd (true≢false (sym on ∙ off)), λ h. absurd (quiet h));
     })
     (λ high.
     let (on, leads) = marks high in
     let (has, some, next) = by.marks high in
     record {
-      next = next_is m rows i b (e - marked) step.next leads next;
+      next = next_is d rows i b (e - marked) step.next leads next;
       marks = (λ _. has, λ _. on);
     })
     (cases_lt e marked)
 
 -- the entry of a byte, and that of the end of the text
-module _ (m : NfaValue) (rows : Rows) (i : ℕ) (sound : IsSound m rows) (lt : i < length rows.starts.items) where
-  pub read_entry : (b e : ℕ) → b < 256 → e ≡ slice_index rows.entries.items (place_of rows i (slice_index rows.class_of b)) → 0 < e → IsEntryBy m rows i b e
+module _ (d : DfaValue) (rows : Rows) (i : ℕ) (sound : IsSound d rows) (lt : i < length rows.starts.items) where
+  pub read_entry : (b e : ℕ) → b < 256 → e ≡ slice_index rows.entries.items (place_of d i (slice_index d.class_of b)) → 0 < e → IsEntryBy d rows i b e
   read_entry b e small is some =
-      let short = (sound.classes b small).0 in
-      let entry = sound.known i (slice_index rows.class_of b) lt (omega (arith, short)) (omega (arith, is, some)) in
-      subst (IsEntryBy m rows i b) (sym is) (entry.byte b small refl)
+      let short = (sound.dfa.classes b small).0 in
+      let entry = sound.known i (slice_index d.class_of b) lt (omega (arith, short)) (omega (arith, is, some)) in
+      subst (IsEntryBy d rows i b) (sym is) (entry.byte b small refl)
 
-  pub read_end : (e : ℕ) → e ≡ slice_index rows.entries.items (place_of rows i rows.class_count) → 0 < e → IsEnd m rows i e
-  read_end e is some = subst (IsEnd m rows i) (sym is) ((sound.known i rows.class_count lt (omega arith) (omega (arith, is, some))).end refl)
+  pub read_end : (e : ℕ) → e ≡ slice_index rows.entries.items (place_of d i d.class_count) → 0 < e → IsEnd d.run rows i e
+  read_end e is some = subst (IsEnd d.run rows i) (sym is) ((sound.known i d.class_count lt (omega arith) (omega (arith, is, some))).end refl)
 
 pub keeps_then : (a b c : Rows) → KeepsRows a b → KeepsRows b c → KeepsRows a c
 keeps_then a b c f g = record {
   more = (let h = f.more in let k = g.more in omega arith);
   states = λ i lt. g.states i (let h = f.more in omega arith) ∙ f.states i lt;
   lists = Lists.keeps_then a.lists.items b.lists.items c.lists.items f.lists g.lists;
-  class_of = g.class_of ∙ f.class_of;
-  class_count = g.class_count ∙ f.class_count;
 }
 
 -- a list of ends was appended, and its place written
-pub record HasListed (old new : Rows) (row : ℕ) (list : List ℕ) : Type 0 where
+pub record HasListed (d : DfaValue) (old new : Rows) (row : ℕ) (list : List ℕ) : Type 0 where
   pub lists : new.lists.items ≡ old.lists.items ++ length list ∷ list
   pub starts : new.starts.items ≡ old.starts.items
-  pub entries : new.entries.items ≡ slice_set old.entries.items (place_of old row old.class_count) (length old.lists.items + 2)
+  pub entries : new.entries.items ≡ slice_set old.entries.items (place_of d row d.class_count) (length old.lists.items + 2)
   pub table : new.table.items ≡ old.table.items
   pub seed : new.seed ≡ old.seed
-  pub class_of : new.class_of ≡ old.class_of
-  pub class_count : new.class_count ≡ old.class_count
   pub begin : new.begin ≡ old.begin
 
-module _ (m : NfaValue) (old new : Rows) (row : ℕ) (list : List ℕ) (is : HasListed old new row list) (sound : IsSound m old) (here : row < length old.starts.items) where
+module _ (d : DfaValue) (old new : Rows) (row : ℕ) (list : List ℕ) (is : HasListed d old new row list) (sound : IsSound d old) (here : row < length old.starts.items) where
   pub listed_keeps : KeepsRows old new
   listed_keeps = record {
     more = rw is.starts (omega arith);
-    states = λ i lt. rw (is.lists, is.starts) ((keeps_lists old.lists.items (length list ∷ list)).1 (size m) (slice_index old.starts.items i) (sound.lists i lt)).1;
+    states = λ i lt. rw (is.lists, is.starts) ((keeps_lists old.lists.items (length list ∷ list)).1 (size d.run) (slice_index old.starts.items i) (sound.lists i lt)).1;
     lists = rw is.lists (keeps_lists old.lists.items (length list ∷ list));
-    class_of = is.class_of;
-    class_count = is.class_count;
   }
 
-  pub listed_sound : AreBelow (half m + half m) list → ((k : ℕ) → IsTrue (has_number k list) ↔ ((k < half m + half m) × AcceptsRow m old row [] k))
-      → ((k : ℕ) × (k < half m + half m) × AcceptsRow m old row [] k) → HasRoomFor m new → IsSound m new
+  pub listed_sound : AreBelow (half d.run + half d.run) list → ((k : ℕ) → IsTrue (has_number k list) ↔ ((k < half d.run + half d.run) × AcceptsRow d.run old row [] k))
+      → ((k : ℕ) × (k < half d.run + half d.run) × AcceptsRow d.run old row [] k) → HasRoomForOne d new → IsSound d new
   listed_sound below has some room = record {
-    fits = sound.fits;
+    dfa = sound.dfa;
     room = room;
-    representatives = sound.representatives;
-    classes = rw (is.class_of, is.class_count) sound.classes;
     few = rw is.starts sound.few;
-    small = let len = ap length is.entries ∙ length-set old.entries.items (place_of old row old.class_count) (length old.lists.items + 2) in let before = sound.small in omega (arith, len, before);
+    small = let len = ap length is.entries ∙ length-set old.entries.items (place_of d row d.class_count) (length old.lists.items + 2) in let before = sound.small in omega (arith, len, before);
     index = rw (is.table, is.seed) (index_kept old.table.items old.seed old.starts.items new.starts.items old.lists.items new.lists.items (rw is.starts refl) listed_keeps.states sound.index);
     lists = λ i lt. let before : i < length old.starts.items = rw is.starts at lt in
-        rw (is.lists, is.starts) ((keeps_lists old.lists.items (length list ∷ list)).1 (size m) (slice_index old.starts.items i) (sound.lists i before)).0;
+        rw (is.lists, is.starts) ((keeps_lists old.lists.items (length list ∷ list)).1 (size d.run) (slice_index old.starts.items i) (sound.lists i before)).0;
     counts = λ i lt. let before : i < length old.starts.items = rw is.starts at lt in
-        subst (λ l. length l ≤ size m) (sym (listed_keeps.states i before)) (sound.counts i before);
-    len = rw (is.starts, is.class_count, is.entries) (length-set old.entries.items (place_of old row old.class_count) (length old.lists.items + 2) ∙ sound.len);
+        subst (λ l. length l ≤ size d.run) (sym (listed_keeps.states i before)) (sound.counts i before);
+    len = rw (is.starts, is.entries) (length-set old.entries.items (place_of d row d.class_count) (length old.lists.items + 2) ∙ sound.len);
     known = λ i c lt hc known.
-        let w = old.class_count in
+        let w = d.class_count in
         let n = length old.starts.items in
         let e = length old.lists.items + 2 in
-        let same : slice_index new.entries.items (place_of new i c) ≡ slice_index (slice_set old.entries.items (row * (w + 1) + w) e) (i * (w + 1) + c) = rw (is.class_count, is.entries) refl in
+        let same : slice_index new.entries.items (place_of d i c) ≡ slice_index (slice_set old.entries.items (row * (w + 1) + w) e) (i * (w + 1) + c) = rw is.entries refl in
         let before : i < n = rw is.starts at lt in
-        let low : c ≤ w = rw is.class_count at hc in
         let place : length old.lists.items ≡ e - 2 = omega arith in
-        let listed : IsListOf new.lists.items (half m + half m) (e - 2) (AcceptsRow m old row []) =
-        subst (λ p. IsListOf new.lists.items (half m + half m) p (AcceptsRow m old row [])) place (rw is.lists (list_last old.lists.items list (half m + half m) (AcceptsRow m old row []) below has)) in
-        let entry : IsEntry m new row w e = record {
-          byte = λ b small class. absurd (let short = (sound.classes b small).0 in let class' : slice_index old.class_of b ≡ w = ap (λ l. slice_index l b) (sym is.class_of) ∙ class in omega (arith, short, class'));
+        let listed : IsListOf new.lists.items (half d.run + half d.run) (e - 2) (AcceptsRow d.run old row []) =
+        subst (λ p. IsListOf new.lists.items (half d.run + half d.run) p (AcceptsRow d.run old row [])) place (rw is.lists (list_last old.lists.items list (half d.run + half d.run) (AcceptsRow d.run old row []) below has)) in
+        let entry : IsEntry d new row w e = record {
+          byte = λ b small class. absurd (let short = (sound.dfa.classes b small).0 in omega (arith, short, class));
           end = λ _. record {
-            none = λ d. absurd (omega (arith, d));
-            some = λ _. let (k, small, a) = some in (k, small, (accepts_kept m old new row [] k (listed_keeps.states row here)).0 a);
-            listed = λ _. list_of_iff new.lists.items (half m + half m) (e - 2) (AcceptsRow m old row []) (AcceptsRow m new row []) (λ k. accepts_kept m old new row [] k (listed_keeps.states row here)) listed;
+            none = λ one. absurd (omega (arith, one));
+            some = λ _. let (k, small, a) = some in (k, small, (accepts_kept d.run old new row [] k (listed_keeps.states row here)).0 a);
+            listed = λ _. list_of_iff new.lists.items (half d.run + half d.run) (e - 2) (AcceptsRow d.run old row []) (AcceptsRow d.run new row []) (λ k. accepts_kept d.run old new row [] k (listed_keeps.states row here)) listed;
           };
         } in
-        subst (IsEntry m new i c) (sym same) (entry_written m new old.entries.items w n row w e i c sound.len here (omega arith) low entry
-        (λ j d lj ld one. entry_kept m old new j listed_keeps lj d (slice_index old.entries.items (j * (w + 1) + d)) (sound.known j d lj ld one)) before (subst (λ x. 0 < x) same known));
-    begins = λ p at. begins_at_kept m old new p listed_keeps (sound.begins p (sym is.begin ∙ at));
+        subst (IsEntry d new i c) (sym same) (entry_written d new old.entries.items w n row w e i c sound.len here (omega arith) hc entry
+        (λ j x lj lx one. entry_kept d old new j listed_keeps lj x (slice_index old.entries.items (j * (w + 1) + x)) (sound.known j x lj lx one)) before (subst (λ x. 0 < x) same known));
+    begins = λ p at. begins_at_kept d old new p listed_keeps (sound.begins p (sym is.begin ∙ at));
   }
 
 -- the list is empty
@@ -587,8 +526,8 @@ pub never_found : (m : NfaValue) → size m ≡ 0 → (y : List ℕ) (k : ℕ) �
 never_found m none y k (lt, found) = ⊎_elim {C = ⊥} (λ r. none_reached m none y k r) (λ (p, q, is, r). none_reached m none p (half m + k) r) found
 
 -- there is one row at a place
-pub one_row : (rows : Rows) (i j p : ℕ) → IsAt rows i p → IsAt rows j p → i ≡ j
-one_row rows i j p (lt, is) (lt', is') = (same_place i 0 j 0 rows.class_count (omega arith) (omega arith) (omega (arith, is, is'))).0
+pub one_row : (d : DfaValue) (rows : Rows) (i j p : ℕ) → IsAt d rows i p → IsAt d rows j p → i ≡ j
+one_row d rows i j p (lt, is) (lt', is') = (same_place i 0 j 0 d.class_count (omega arith) (omega arith) (omega (arith, is, is'))).0
 
 -- a number that stands in a list where one was written is that one, or stood there before
 pub one_written : (list : List ℕ) (at value s x : ℕ) → at < length list → slice_index (slice_set list at value) s ≡ x → (value ≡ x) ⊎ (slice_index list s ≡ x)

@@ -2,17 +2,17 @@
 
 ghost use Rattle.std.specs.Prelude.{◌≡◌, ℕ, ◌+◌, ◌*◌, ◌<◌, ◌≤◌, ◌↔◌, List, length, MatchOption, MatchResult};
 ghost use Rattle.bit_sets.specs.Indexes.{index_capacity};
-ghost use Rattle.byte_nfa.specs.EarlyMatches.{EndsAtEarlyMatches, half};
+ghost use Rattle.byte_nfa.specs.EarlyMatches.{half};
 ghost use Rattle.byte_nfa.specs.Runs.{size, AcceptsFrom};
-ghost use Rattle.byte_nfa.specs.Steps.{NfaValue};
 ghost use Rattle.lazy_dfa.specs.inner.Reached.{HasRead, IsLeft, IsWhereBy};
-ghost use Rattle.lazy_dfa.specs.inner.Rows.{AcceptsRow, AddsFound, IsAt, IsRowOf, IsSound};
+ghost use Rattle.lazy_dfa.specs.inner.Rows.{AcceptsRow, AddsFound, HasRoomFor, IsAt, IsRowOf, IsSound};
 
 use super::{Rows, states_at};
+use crate::dfa::Dfa;
 use crate::lists::{list_of, put_in_order, put_states};
+use crate::pass::Pass;
 use crate::run::{Left, Reached};
 use bit_sets::{IndexSet, Visits};
-use byte_nfa::Nfa;
 use byte_nfa::stepping::{self, Led};
 
 /// The last time that a run gave up rows, which at first is its beginning, and for how many bytes it gives them up the next time.
@@ -56,50 +56,52 @@ impl Rows {
     /// states. A run calls it where it gives up rows. Returns where the run goes on, or `None` if nothing follows.
     pub fn find_stepped(
         &mut self,
-        automaton: &Nfa,
+        dfa: &Dfa,
         place: usize,
         text: &[u8],
         given_up: &mut GivenUp,
+        pass: &mut Pass,
         found: &mut IndexSet,
         visits: &mut Visits,
     ) -> Option<Left>
-        // The rows are right for the automaton, and there is a row at the place.
-        requires sound { IsSound automaton.now self.old }
-        requires row { (i : ℕ) × IsAt self.old i place }
+        // The rows are right for the automaton, there is a row at the place, and there is memory for a pass.
+        requires sound { IsSound dfa.now self.old }
+        requires row { (i : ℕ) × IsAt dfa.now self.old i place }
+        requires fits { HasRoomFor dfa.now.run pass.old }
 
-        // The set has room for the indexes of the automaton, which has early matches.
-        requires room { half automaton.now ≤ index_capacity found.old }
-        requires early { (source : NfaValue) × EndsAtEarlyMatches source automaton.now }
+        // The set has room for the indexes of the automaton.
+        requires room { half dfa.now.run ≤ index_capacity found.old }
 
-        // The rows stay right. The set keeps its capacity, and of what is found lacks at most what the rest of the text leads to.
-        ensures sound { IsSound automaton.now self.new }
+        // That stays so. The set keeps its capacity, and of what is found lacks at most what the rest of the text leads to.
+        ensures sound { IsSound dfa.now self.new }
+        ensures fits { HasRoomFor dfa.now.run pass.new }
         ensures room { index_capacity found.new ≡ index_capacity found.old }
-        ensures found { (i : ℕ) → IsAt self.old i place
-            → MatchOption result (AddsFound automaton.now self.old i text.now found.old found.new)
-            (IsLeft automaton.now self.old i text.now found.old self.new found.new) }
+        ensures found { (i : ℕ) → IsAt dfa.now self.old i place
+            → MatchOption result (AddsFound dfa.now.run self.old i text.now found.old found.new)
+            (IsLeft dfa.now self.old i text.now found.old self.new found.new) }
 
         // The visits are bounded, and do not become fewer.
         ensures visits { MatchOption result
-            (visits.new ≤ visits.old + length text.now * (size automaton.now + 1))
-            (λ left. visits.new ≤ visits.old + left.at * (size automaton.now + 1)) }
+            (visits.new ≤ visits.old + length text.now * (size dfa.now.run + 1))
+            (λ left. visits.new ≤ visits.old + left.at * (size dfa.now.run + 1)) }
         ensures counted { visits.old ≤ visits.new }
     {
-        let count = given_up.next(self, automaton.state_count(), text.len());
+        let count = given_up.next(self, dfa.state_count(), text.len());
         if count == 0 {
             return Some(Left { at: 0, place });
         }
-        self.take_states(automaton, place);
+        self.take_states(dfa, place, pass);
         if !stepping::run(
-            automaton,
+            dfa.automaton(),
             &text[..count],
-            &mut self.from,
-            &mut self.next,
+            &mut pass.from,
+            &mut pass.next,
             found,
             visits,
         ) {
             return None;
         }
-        let place = self.row_of_from(automaton, visits);
+        let place = self.row_of_from(dfa, pass, visits);
         Some(Left { at: count, place })
     }
 
@@ -107,77 +109,81 @@ impl Rows {
     /// up rows. Returns an error that says from where the run goes on.
     pub fn read_stepped(
         &mut self,
-        automaton: &Nfa,
+        dfa: &Dfa,
         place: usize,
         text: &[u8],
         given_up: &mut GivenUp,
+        pass: &mut Pass,
         visits: &mut Visits,
     ) -> Result<Reached, Left>
-        // The rows are right for the automaton, which has early matches, and there is a row at the place.
-        requires sound { IsSound automaton.now self.old }
-        requires row { (i : ℕ) × IsAt self.old i place }
-        requires early { (source : NfaValue) × EndsAtEarlyMatches source automaton.now }
+        // The rows are right for the automaton, there is a row at the place, and there is memory for a pass.
+        requires sound { IsSound dfa.now self.old }
+        requires row { (i : ℕ) × IsAt dfa.now self.old i place }
+        requires fits { HasRoomFor dfa.now.run pass.old }
 
-        // The rows stay right, and the result says where the text leads, or from where the run goes on.
-        ensures sound { IsSound automaton.now self.new }
-        ensures reached { (i : ℕ) → IsAt self.old i place → MatchResult result
-            (IsWhereBy automaton.now self.new (AcceptsRow automaton.now self.old i) text.now)
-            (HasRead automaton.now self.old i text.now self.new) }
+        // That stays so, and the result says where the text leads, or from where the run goes on.
+        ensures sound { IsSound dfa.now self.new }
+        ensures fits { HasRoomFor dfa.now.run pass.new }
+        ensures reached { (i : ℕ) → IsAt dfa.now self.old i place → MatchResult result
+            (IsWhereBy dfa.now self.new (AcceptsRow dfa.now.run self.old i) text.now)
+            (HasRead dfa.now self.old i text.now self.new) }
 
         // The visits are bounded, and do not become fewer.
         ensures visits { MatchResult result
-            (λ _. visits.new ≤ visits.old + length text.now * (size automaton.now + 1))
-            (λ left. visits.new ≤ visits.old + left.at * (size automaton.now + 1)) }
+            (λ _. visits.new ≤ visits.old + length text.now * (size dfa.now.run + 1))
+            (λ left. visits.new ≤ visits.old + left.at * (size dfa.now.run + 1)) }
         ensures counted { visits.old ≤ visits.new }
     {
-        let count = given_up.next(self, automaton.state_count(), text.len());
+        let count = given_up.next(self, dfa.state_count(), text.len());
         if count == 0 {
             return Err(Left { at: 0, place });
         }
-        self.take_states(automaton, place);
+        self.take_states(dfa, place, pass);
         match stepping::read(
-            automaton,
+            dfa.automaton(),
             &text[..count],
-            &mut self.from,
-            &mut self.next,
+            &mut pass.from,
+            &mut pass.next,
             visits,
         ) {
             Led::Decided => Ok(Reached::Decided),
             Led::NoState => Ok(Reached::Nothing),
             Led::States => {
-                let place = self.row_of_from(automaton, visits);
+                let place = self.row_of_from(dfa, pass, visits);
                 Err(Left { at: count, place })
             }
         }
     }
 
-    /// Makes `from` the states of the row at a place.
-    fn take_states(&mut self, automaton: &Nfa, place: usize)
-        requires sound { IsSound automaton.now self.old }
-        requires row { (i : ℕ) × IsAt self.old i place }
-        ensures sound { IsSound automaton.now self.new }
-        ensures states { (i : ℕ) → IsAt self.old i place
-            → (y : List ℕ) (k : ℕ) → AcceptsFrom automaton.now self.new.from y k
-            ↔ AcceptsRow automaton.now self.old i y k }
+    /// Makes `from` of the pass the states of the row at a place.
+    fn take_states(&self, dfa: &Dfa, place: usize, pass: &mut Pass)
+        requires sound { IsSound dfa.now self.now }
+        requires row { (i : ℕ) × IsAt dfa.now self.now i place }
+        requires fits { HasRoomFor dfa.now.run pass.old }
+        ensures fits { HasRoomFor dfa.now.run pass.new }
+        ensures states { (i : ℕ) → IsAt dfa.now self.now i place
+            → (y : List ℕ) (k : ℕ) → AcceptsFrom dfa.now.run pass.new.from y k
+            ↔ AcceptsRow dfa.now.run self.now i y k }
     {
-        let row = self.row_at(place);
-        self.from.clear();
+        let row = self.row_at(dfa, place);
+        pass.from.clear();
         let states = states_at(&self.starts, &self.lists, row);
-        put_states(states, &mut self.from);
+        put_states(states, &mut pass.from);
     }
 
-    /// Returns the place of the row of the states in `from`, and makes it if it is not there. It is at most a visit for each state, and
-    /// one.
-    fn row_of_from(&mut self, automaton: &Nfa, visits: &mut Visits) -> usize
-        requires { IsSound automaton.now self.old }
-        ensures sound { IsSound automaton.now self.new }
-        ensures row { IsRowOf automaton.now (AcceptsFrom automaton.now self.old.from) self.new
-            result }
-        ensures visits { visits.new ≤ visits.old + (size automaton.now + 1) }
+    /// Returns the place of the row of the states in `from` of the pass, and makes it if it is not there. It is at most a visit for each
+    /// state, and one.
+    fn row_of_from(&mut self, dfa: &Dfa, pass: &mut Pass, visits: &mut Visits) -> usize
+        requires sound { IsSound dfa.now self.old }
+        requires fits { HasRoomFor dfa.now.run pass.old }
+        ensures sound { IsSound dfa.now self.new }
+        ensures fits { HasRoomFor dfa.now.run pass.new }
+        ensures row { IsRowOf dfa.now (AcceptsFrom dfa.now.run pass.old.from) self.new result }
+        ensures visits { visits.new ≤ visits.old + (size dfa.now.run + 1) }
         ensures counted { visits.old ≤ visits.new }
     {
-        list_of(&self.from, automaton.state_count(), &mut self.list, visits);
-        put_in_order(&mut self.list);
-        self.seek(automaton, visits).place
+        list_of(&pass.from, dfa.state_count(), &mut pass.list, visits);
+        put_in_order(&mut pass.list);
+        self.seek(dfa, &pass.list, visits).place
     }
 }

@@ -22,7 +22,8 @@ none_told s p is = ⊎_elim {C = ⊥}
 
 pub loop-byte-init : goal.loop-byte-init
 loop-byte-init c =
-    let m = c.args.automaton.now in
+    let d = c.args.dfa.now in
+    let m = d.run in
     let rows = c.args.self.now in
     let (j, at) = c.requires.row in
     record {
@@ -33,7 +34,7 @@ loop-byte-init c =
         j,
         at,
         λ i at' k. subst (λ r. (FindsBy (half m) (AcceptsRow m rows j) c.args.text.now k ⊎ IsTrue (has_index c.args.found.now k)) ↔ (FindsBy (half m) (AcceptsRow m rows r) c.args.text.now k ⊎ IsTrue (has_index c.args.found.now k)))
-            (one_row rows j i c.args.place at at') (λ h. h, λ h. h),
+            (one_row d rows j i c.args.place at at') (λ h. h, λ h. h),
       );
       slots = refl;
       told = λ s p is. absurd (none_told s p is);
@@ -47,7 +48,8 @@ told_step-requires-clause-told c = λ on i at. c.loop-byte.invariant.told c.slot
 
 pub returns-then-count-indexes-clause-found : goal.returns-then-count-indexes-clause-found
 returns-then-count-indexes-clause-found c = λ i at k.
-    let m = c.args.automaton.now in
+    let d = c.args.dfa.now in
+    let m = d.run in
     let rows = c.args.self.now in
     let text = c.args.text.now in
     let l = c.loop-byte in
@@ -63,13 +65,14 @@ returns-then-count-indexes-clause-found c = λ i at k.
     let so_far = told_found (half m) (AcceptsRow m rows j) (AcceptsRow m rows next) b goes rest k (has_index l.found k) (has_index c.told_step.new.found k) _ (told.told k) (rw more at runs i at k) in (
       λ h. so_far.0 (inr h),
       ⊎_elim {C = IsTrue (has_index c.told_step.new.found k)}
-          (λ f. all_found c.args.indexes.now c.found_count-count.result c.told_step.new.found c.found_count-count.ensures c.if-count-indexes.true k (found_listed m rows i c.args.indexes.now c.requires.listed text k f))
+          (λ f. all_found c.indexes-indexes.result.now c.found_count-count.result c.told_step.new.found c.found_count-count.ensures c.if-count-indexes.true k (found_listed m rows i c.indexes-indexes.result.now c.indexes-indexes.ensures text k f))
           (λ old. (told.told k).1 (inr (inv.kept k old))),
     )
 
 pub returns-in_default-next-clause-found : goal.returns-in_default-next-clause-found
 returns-in_default-next-clause-found c = λ i at k.
-    let m = c.args.automaton.now in
+    let d = c.args.dfa.now in
+    let m = d.run in
     let rows = c.args.self.now in
     let text = c.args.text.now in
     let l = c.loop-byte in
@@ -95,7 +98,8 @@ returns-in_default-told_step-clause-found c = λ i at.
 
 pub loop-byte-preserved : goal.loop-byte-preserved
 loop-byte-preserved c =
-    let m = c.args.automaton.now in
+    let d = c.args.dfa.now in
+    let m = d.run in
     let rows = c.args.self.now in
     let text = c.args.text.now in
     let l = c.loop-byte in
@@ -108,7 +112,7 @@ loop-byte-preserved c =
     let (j, there, runs) = inv.runs in
     elim c.match-plain_next.branch [
       | in-Some w ↦
-          let (quiet, (next, there', goes)) = rw w.in-Some.is at c.plain_next.ensures.next m j c.requires.sound there in
+          let (quiet, (next, there', goes)) = rw w.in-Some.is at c.plain_next.ensures.next j there in
           rw (w.found-is, w.place-is, w.told-is, w.count-is, w.visits-is) record {
             at = omega (arith, inv.at);
             room = inv.room;
@@ -135,7 +139,7 @@ loop-byte-preserved c =
             slots = length-set l.told w.slot_of-slot.result (l.place + 1) ∙ inv.slots;
             told = λ s p is j' at' k low a. ⊎_elim {C = IsTrue (has_index w.told_step.new.found k)}
                 (λ here. let same : p ≡ l.place = omega (arith, here) in
-                ((rw w.in-Some-told_step.is at w.told_step.ensures.step j' (subst (IsAt rows j') same at')).told k).1 (inl (low, a)))
+                ((rw w.in-Some-told_step.is at w.told_step.ensures.step j' (subst (IsAt d rows j') same at')).told k).1 (inl (low, a)))
                 (λ before. (told.told k).1 (inr (inv.told s p before j' at' k low a)))
                 (one_written l.told w.slot_of-slot.result (l.place + 1) s (p + 1) (omega (arith, inv.slots, w.slot_of-slot.ensures)) is);
             count = w.found_count-count.ensures;

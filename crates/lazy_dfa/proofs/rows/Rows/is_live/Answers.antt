@@ -5,7 +5,8 @@ use Rattle.lazy_dfa.proofs.rows.Rows.is_live.Goals as goal
 
 pub returns-then-has-clause-some : goal.returns-then-has-clause-some
 returns-then-has-clause-some c = λ i at.
-    let m = c.args.automaton.now in
+    let d = c.args.dfa.now in
+    let m = d.run in
     let rows = c.args.self.now in
     let row : c.row_at.result ≡ i = c.row_at.ensures i at.1 in
     let same : c.states_at-state-items.result.now ≡ states_of rows i = rw (c.deref.ensures.value, c.deref-2.ensures.value, row) at c.states_at-state-items.ensures in
@@ -13,11 +14,12 @@ returns-then-has-clause-some c = λ i at.
     let n = c.loop-state.state-index in
     let lt : n < length (states_of rows i) = rw same at c.loop-state-test.true in
     let has = rw same at (sym c.has.ensures.has ∙ c.if-has.true) in
-    (λ _. some_live m c.args.live.now c.requires.live (states_of rows i) below n lt has, λ _. refl)
+    (λ _. some_live m c.live_states-live.result.now c.live_states-live.ensures.live (states_of rows i) below n lt has, λ _. refl)
 
 pub returns-clause-some : goal.returns-clause-some
 returns-clause-some c = λ i at.
-    let m = c.args.automaton.now in
+    let d = c.args.dfa.now in
+    let m = d.run in
     let rows = c.args.self.now in
     let row : c.row_at.result ≡ i = c.row_at.ensures i at.1 in
     let same : c.states_at-state-items.result.now ≡ states_of rows i = rw (c.deref.ensures.value, c.deref-2.ensures.value, row) at c.states_at-state-items.ensures in
@@ -25,5 +27,5 @@ returns-clause-some c = λ i at.
     let none = rw same at c.loop-state.invariant.none in
     let past = rw same at c.loop-state-test.false in (
       λ off. absurd (true≢false (sym off)),
-      λ some. absurd (none_live m c.args.live.now c.requires.live (states_of rows i) below (λ n lt. none n (omega (arith, lt, past))) some),
+      λ some. absurd (none_live m c.live_states-live.result.now c.live_states-live.ensures.live (states_of rows i) below (λ n lt. none n (omega (arith, lt, past))) some),
     )

@@ -17,7 +17,7 @@ loop-probe-preserved c = λ p lt.
     let place : c.place_of.result ≡ nth_place c.args.hash c.loop-probe.probe n = c.place_of.ensures.place ∙ ap (nth_place c.args.hash c.loop-probe.probe) count in
     let here : c.index.result.now ≡ slice_index rows.table.items (nth_place c.args.hash c.loop-probe.probe n) =
     c.index.ensures ∙ in_range rows.table.items c.place_of.result c.index.result.now (omega (arith, c.place_of.ensures.within, count)) ∙ ap (slice_index rows.table.items) place in
-    ⊎_elim {C = (0 < slice_index rows.table.items (nth_place c.args.hash p n)) × ((i : ℕ) → i < length rows.starts.items → slice_index rows.table.items (nth_place c.args.hash p n) ≡ i + 1 → states_of rows i ≡ rows.list.items → ⊥)}
+    ⊎_elim {C = (0 < slice_index rows.table.items (nth_place c.args.hash p n)) × ((i : ℕ) → i < length rows.starts.items → slice_index rows.table.items (nth_place c.args.hash p n) ≡ i + 1 → states_of rows i ≡ c.args.list.now → ⊥)}
     (λ low. c.loop-probe.invariant p low)
     (λ high.
     let this : c.loop-probe.probe ≡ p = omega (arith, lt, high) in
@@ -28,7 +28,7 @@ loop-probe-preserved c = λ p lt.
           elim c.else-row-len.branch [
             | else-row-len-via-then-row-len+else-eq w ↦
                 let list = rw (w.deref.ensures.value, w.deref-then-row-len.ensures.value) at w.states_at.ensures ∙ ap (states_of rows) row in
-                true≢false (sym ((slice_eq-Decides Decides-eqb w.states_at.result.now w.as_slice.result.now w.eq.result w.eq.ensures).1 (list ∙ same ∙ sym w.as_slice.ensures.value)) ∙ w.if-eq.false)
+                true≢false (sym ((slice_eq-Decides Decides-eqb w.states_at.result.now c.args.list.now w.eq.result w.eq.ensures).1 (list ∙ same)) ∙ w.if-eq.false)
             | else-row-len-via-else-row-len w ↦ absurd (omega (arith, w.if-row-len.false, c.len-in-loop-probe.ensures, rows.starts.ok.0, small, row))
           ],
     ))

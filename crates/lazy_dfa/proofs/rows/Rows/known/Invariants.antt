@@ -7,4 +7,4 @@ use Rattle.lazy_dfa.proofs.rows.Rows.known.Given as goal
 abbrev pub invariant-loop-probe : goal.invariant-loop-probe
 invariant-loop-probe l = (p : ℕ) → p < l.probe
     → (0 < slice_index l.self.table.items (nth_place l.hash p (length l.self.table.items)))
-    × ((i : ℕ) → i < length l.self.starts.items → slice_index l.self.table.items (nth_place l.hash p (length l.self.table.items)) ≡ i + 1 → states_of l.self i ≡ l.self.list.items → ⊥)
+    × ((i : ℕ) → i < length l.self.starts.items → slice_index l.self.table.items (nth_place l.hash p (length l.self.table.items)) ≡ i + 1 → states_of l.self i ≡ l.list → ⊥)

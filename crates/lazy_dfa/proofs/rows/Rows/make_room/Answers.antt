@@ -5,27 +5,18 @@ use Rattle.lazy_dfa.proofs.rows.Rows.make_room.Goals as goal
 
 pub returns-in-Some-clause-sound : goal.returns-in-Some-clause-sound
 returns-in-Some-clause-sound c =
+    let d = c.args.dfa.now in
     let old = c.args.self.now in
     let new = c.find_place.new.self in
-    let same = c.find_place.ensures.same in
     let sound = c.requires.sound in
-    let index = sound.index in
-    let room = sound.room in
     let found = rw c.in-Some.is at c.find_place.ensures.found in
-    let m = c.args.automaton.now in
-    subst (IsSound m) (sym same) (same_sound m old (with_table_of old new) record { starts = refl; lists = refl; class_of = refl; class_count = refl } refl refl record {
+    subst (IsSound d) (sym c.find_place.ensures.same) (same_sound d old (with_table_of old new) record { starts = refl; lists = refl } refl refl record {
       some = c.find_place.ensures.some;
       found = found;
-      ordered = index.ordered;
-      distinct = index.distinct;
+      ordered = sound.index.ordered;
+      distinct = sound.index.distinct;
     } record {
-      from = room.from;
-      next = room.next;
-      first = room.first;
-      ends = room.ends;
-      list = room.list;
-      lists = room.lists;
-      starts = room.starts;
-      entries = room.entries;
-      width = room.width;
+      lists = sound.room.lists;
+      starts = sound.room.starts;
+      entries = sound.room.entries;
     } sound)

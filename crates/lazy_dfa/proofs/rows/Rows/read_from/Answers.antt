@@ -11,7 +11,8 @@ use Rattle.lazy_dfa.proofs.rows.Rows.read_from.Goals.{in-Some, in_default+in-Som
 
 pub loop-byte-init : goal.loop-byte-init
 loop-byte-init c =
-    let m = c.args.automaton.now in
+    let d = c.args.dfa.now in
+    let m = d.run in
     let rows = c.args.self.now in
     let (j, at) = c.requires.row in
     record {
@@ -19,7 +20,7 @@ loop-byte-init c =
       runs = (
         j,
         at,
-        λ i at' z k. subst (λ r. FindsBy (half m) (AcceptsRow m rows j) (c.args.text.now ++ z) k ↔ FindsBy (half m) (AcceptsRow m rows r) (c.args.text.now ++ z) k) (one_row rows j i c.args.place at at') (λ h. h, λ h. h),
+        λ i at' z k. subst (λ r. FindsBy (half m) (AcceptsRow m rows j) (c.args.text.now ++ z) k ↔ FindsBy (half m) (AcceptsRow m rows r) (c.args.text.now ++ z) k) (one_row d rows j i c.args.place at at') (λ h. h, λ h. h),
       );
       visits = omega arith;
       counted = omega arith;
@@ -36,7 +37,8 @@ returns-in_default-known_step-clause-reached c = λ i at.
 
 pub returns-then-step-clause-reached : goal.returns-then-step-clause-reached
 returns-then-step-clause-reached c = λ i at z.
-    let m = c.args.automaton.now in
+    let d = c.args.dfa.now in
+    let m = d.run in
     let text = c.args.text.now in
     let l = c.loop-byte in
     let n = l.byte-index in
@@ -45,13 +47,14 @@ returns-then-step-clause-reached c = λ i at z.
     let rest = drop (n + 1) text in
     let more : drop n text ≡ b ∷ rest = drop_more text n 0 lt in
     let (j, there, runs) = l.invariant.runs in
-    let step = rw c.in-Some-known_step.is at c.known_step.ensures.step m j c.requires.sound there in
+    let step = rw c.in-Some-known_step.is at c.known_step.ensures.step j there in
     let (k, low, a) = step.marks.0 c.if-step.true in
     (k, (rw more at runs i at z k).0 (low, inr ([], b ∷ rest ++ z, refl, a)))
 
 pub returns-in_default-next-clause-reached : goal.returns-in_default-next-clause-reached
 returns-in_default-next-clause-reached c = λ i at z k found.
-    let m = c.args.automaton.now in
+    let d = c.args.dfa.now in
+    let m = d.run in
     let rows = c.args.self.now in
     let text = c.args.text.now in
     let l = c.loop-byte in
@@ -61,14 +64,15 @@ returns-in_default-next-clause-reached c = λ i at z k found.
     let rest = drop (n + 1) text in
     let more : drop n text ≡ b ∷ rest = drop_more text n 0 lt in
     let (j, there, runs) = l.invariant.runs in
-    let step = rw c.in-Some-known_step.is at c.known_step.ensures.step m j c.requires.sound there in
+    let step = rw c.in-Some-known_step.is at c.known_step.ensures.step j there in
     let dead = rw c.in_default-next.is at step.next in
     let (low, a) = (at_dead (half m) (AcceptsRow m rows j) b dead (rest ++ z) k).0 ((rw more at runs i at z k).1 found) in
     true≢false (sym (step.marks.1 (k, low, a)) ∙ c.if-step.false)
 
 pub loop-byte-preserved : goal.loop-byte-preserved
 loop-byte-preserved c =
-    let m = c.args.automaton.now in
+    let d = c.args.dfa.now in
+    let m = d.run in
     let rows = c.args.self.now in
     let text = c.args.text.now in
     let l = c.loop-byte in
@@ -81,7 +85,7 @@ loop-byte-preserved c =
     let (j, there, runs) = inv.runs in
     elim c.match-plain_next.branch [
       | in-Some w ↦
-          let (quiet, (next, there', goes)) = rw w.in-Some.is at c.plain_next.ensures.next m j c.requires.sound there in
+          let (quiet, (next, there', goes)) = rw w.in-Some.is at c.plain_next.ensures.next j there in
           rw (w.place-is, w.visits-is) record {
             at = omega (arith, inv.at);
             runs = (
@@ -93,7 +97,7 @@ loop-byte-preserved c =
             counted = omega (arith, w.in-Some.ensures.visits, inv.counted);
           }
       | in_default+in-Some-known_step+else-step+in-Some-next w ↦
-          let step = rw w.in-Some-known_step.is at w.known_step.ensures.step m j c.requires.sound there in
+          let step = rw w.in-Some-known_step.is at w.known_step.ensures.step j there in
           let (next, there', goes) = rw w.in-Some-next.is at step.next in
           rw (w.place-is, w.visits-is) record {
             at = omega (arith, inv.at);

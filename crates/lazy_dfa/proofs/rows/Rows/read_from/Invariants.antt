@@ -6,10 +6,11 @@ use Rattle.lazy_dfa.proofs.rows.Rows.read_from.Given as goal
 
 abbrev pub invariant-loop-byte : goal.invariant-loop-byte
 invariant-loop-byte l =
-    let m = l.automaton in
+    let d = l.dfa in
+    let m = d.run in
     record {
       at : l.at ≡ l.byte-index;
-      runs : (j : ℕ) × IsAt l.self j l.place × ((i : ℕ) → IsAt l.self i l.fn.place → (z : List ℕ) (k : ℕ) → FindsBy (half m) (AcceptsRow m l.self j) (drop l.byte-index l.text ++ z) k ↔ FindsBy (half m) (AcceptsRow m l.self i) (l.text ++ z) k);
+      runs : (j : ℕ) × IsAt d l.self j l.place × ((i : ℕ) → IsAt d l.self i l.fn.place → (z : List ℕ) (k : ℕ) → FindsBy (half m) (AcceptsRow m l.self j) (drop l.byte-index l.text ++ z) k ↔ FindsBy (half m) (AcceptsRow m l.self i) (l.text ++ z) k);
       visits : l.visits ≤ l.fn.visits + l.byte-index;
       counted : l.fn.visits ≤ l.visits;
     }

@@ -10,15 +10,17 @@ use Rattle.lazy_dfa.proofs.rows.Rows.read_known.Goals as goal
 
 pub returns-in-Ok-clause-reached : goal.returns-in-Ok-clause-reached
 returns-in-Ok-clause-reached c =
-    let m = c.args.automaton.now in
+    let d = c.args.dfa.now in
+    let m = d.run in
     let rows = c.args.self.now in
     let text = c.args.text.now in
     let (j, at, begins) = c.requires.begins c.in-Some.place c.in-Some.is in
-    read_on m rows (AcceptsRow m rows j) (IsReached m) text text c.in-Ok.reached (λ z k. finds_same (half m) (AcceptsRow m rows j) (IsReached m) begins (text ++ z) k) (rw c.in-Ok.is at c.read_from.ensures.reached j at)
+    read_on d rows (AcceptsRow m rows j) (IsReached m) text text c.in-Ok.reached (λ z k. finds_same (half m) (AcceptsRow m rows j) (IsReached m) begins (text ++ z) k) (rw c.in-Ok.is at c.read_from.ensures.reached j at)
 
 pub returns-else-left-text-clause-reached : goal.returns-else-left-text-clause-reached
 returns-else-left-text-clause-reached c =
-    let m = c.args.automaton.now in
+    let d = c.args.dfa.now in
+    let m = d.run in
     let rows = c.args.self.now in
     let text = c.args.text.now in
     let (j, at, begins) = c.requires.begins c.in-Some.place c.in-Some.is in

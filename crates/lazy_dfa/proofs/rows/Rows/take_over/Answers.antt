@@ -3,22 +3,14 @@ use Rattle.lazy_dfa.proofs.lemmas.Rows.{same_sound}
 use Rattle.lazy_dfa.proofs.rows.Rows.take_over.Goals as goal
 
 pub returns : goal.returns
-returns c = λ m sound other.
+returns c = λ d sound other.
     let room = sound.room in
-    same_sound m c.args.other.now _ record {
+    same_sound d c.args.other.now _ record {
       starts = c.copy_within.ensures.items ∙ c.deref.ensures.value;
       lists = c.copy_within-2.ensures.items ∙ c.deref-2.ensures.value;
-      class_of = refl;
-      class_count = omega (arith, c.if-other-self.false);
     } (c.copy_within-3.ensures.items ∙ c.deref-3.ensures.value) refl
     (rw (c.copy_within-4.ensures.items, c.deref-4.ensures.value, c.copy_within.ensures.items, c.deref.ensures.value, c.copy_within-2.ensures.items, c.deref-2.ensures.value) other.index) record {
-      from = room.from;
-      next = room.next;
-      first = room.first;
-      ends = room.ends;
-      list = room.list;
       lists = omega (arith, room.lists, c.copy_within-2.ensures.capacity);
       starts = omega (arith, room.starts, c.copy_within.ensures.capacity);
       entries = omega (arith, room.entries, c.copy_within-3.ensures.capacity);
-      width = room.width;
     } other

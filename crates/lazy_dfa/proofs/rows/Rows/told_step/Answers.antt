@@ -1,4 +1,4 @@
-use Rattle.std.proofs.Common.{◌+◌, inr, IsTrue, slice_index, arith, ap, ◌∙◌}
+use Rattle.std.proofs.Common.{◌+◌, ◌*◌, inr, IsTrue, slice_index, arith, ap, ◌∙◌}
 use Rattle.std.proofs.Math.Logic.{⊎_elim}
 use Rattle.bit_sets.specs.Indexes.{has_index}
 use Rattle.lazy_dfa.proofs.lemmas.Rows.{known_is, read_entry}
@@ -7,14 +7,15 @@ use Rattle.lazy_dfa.proofs.rows.Rows.told_step.Goals.{else-entry-ge-MARKED-via-t
 
 pub returns-clause-step : goal.returns-clause-step
 returns-clause-step c = λ i (lt, is).
-    let m = c.args.automaton.now in
+    let d = c.args.dfa.now in
+    let m = d.run in
     let rows = c.args.self.now in
-    let class = slice_index rows.class_of c.args.byte in
+    let class = c.class_of.result in
     let e = c.entry_at-entry.result in
-    let at = c.entry_at-entry.ensures ∙ ap (λ l. slice_index l (c.args.place + class)) c.deref.ensures.value ∙ ap (λ p. slice_index rows.entries.items (p + class)) is in
-    let by = read_entry m rows i c.requires.sound lt c.args.byte e (omega arith) at (omega arith) in
+    let at = c.entry_at-entry.ensures ∙ ap (λ l. slice_index l (c.args.place + class)) c.deref.ensures.value ∙ ap (λ p. slice_index rows.entries.items (p + class)) is ∙ ap (λ n. slice_index rows.entries.items (i * (d.class_count + 1) + n)) c.class_of.ensures in
+    let by = read_entry d rows i c.requires.sound lt c.args.byte e (omega arith) at (omega arith) in
     record {
-      known = known_is m rows i c.args.byte e c.step_of.result by c.step_of.ensures.plain c.step_of.ensures.marks;
+      known = known_is d rows i c.args.byte e c.step_of.result by c.step_of.ensures.plain c.step_of.ensures.marks;
       told = elim c.else-entry-ge-MARKED.branch [
         | else-entry-ge-MARKED-via-then-entry-ge-MARKED+then-not-is_told+else-not-tell_marks w ↦ rw w.found-is (w.tell_marks.ensures.told i (lt, is) w.if-not-tell_marks.false)
         | else-entry-ge-MARKED-via-then-entry-ge-MARKED+else-not-is_told w ↦ rw w.found-is (λ k. (

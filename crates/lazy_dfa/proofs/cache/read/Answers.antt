@@ -7,13 +7,15 @@ use Rattle.byte_nfa.specs.EarlyMatches.{half}
 use Rattle.lazy_dfa.specs.inner.Rows.{AcceptsRow}
 use Rattle.byte_nfa.proofs.lemmas.Finding.{finds_same, at_quiet, at_dead, visits_left, visits_stepped}
 use Rattle.lazy_dfa.proofs.lemmas.Reading.{read_on}
-use Rattle.lazy_dfa.proofs.rows.Rows.read.Goals as goal
+use Rattle.lazy_dfa.proofs.cache.read.Goals as goal
 
 pub loop-reached-init : goal.loop-reached-init
 loop-reached-init c = record {
   sound = c.start-place.ensures.sound;
+  fits = c.requires.fits;
   runs =
-      let m = c.args.automaton.now in
+      let d = c.args.dfa.now in
+      let m = d.run in
       let (j, at, begins) = c.start-place.ensures.begins in
       (j, at, λ z k. finds_same (half m) (AcceptsRow m c.start-place.new.self j) (IsReached m) begins (c.args.text.now ++ z) k);
   visits = omega arith;
@@ -22,10 +24,11 @@ loop-reached-init c = record {
 
 pub returns-in-Ok-clause-reached : goal.returns-in-Ok-clause-reached
 returns-in-Ok-clause-reached c =
-    let m = c.args.automaton.now in
-    let rows = c.loop-reached.self in
+    let d = c.args.dfa.now in
+    let m = d.run in
+    let rows = c.loop-reached.rows in
     let (j, at, runs) = c.loop-reached.invariant.runs in
-    read_on m rows (AcceptsRow m rows j) (IsReached m) c.loop-reached.rest.now c.args.text.now c.in-Ok.reached runs (rw c.in-Ok.is at c.read_from.ensures.reached j at)
+    read_on d rows (AcceptsRow m rows j) (IsReached m) c.loop-reached.rest.now c.args.text.now c.in-Ok.reached runs (rw c.in-Ok.is at c.read_from.ensures.reached j at)
 
 pub returns-in_default-clause-reached : goal.returns-in_default-clause-reached
 returns-in_default-clause-reached c =
@@ -58,8 +61,9 @@ returns-then-step-clause-reached c = λ z.
 
 pub returns-in_default-next-clause-reached : goal.returns-in_default-next-clause-reached
 returns-in_default-next-clause-reached c = λ z k found.
-    let m = c.args.automaton.now in
-    let rows = c.loop-reached.self in
+    let d = c.args.dfa.now in
+    let m = d.run in
+    let rows = c.loop-reached.rows in
     let rest = c.loop-reached.rest.now in
     let (j, at, runs) = c.loop-reached.invariant.runs in
     let left = rw c.in-Err.is at c.read_from.ensures.reached j at in
@@ -75,7 +79,8 @@ returns-in_default-next-clause-reached c = λ z k found.
 
 pub returns-then-step-clause-visits : goal.returns-then-step-clause-visits
 returns-then-step-clause-visits c =
-    let m = c.args.automaton.now in
+    let d = c.args.dfa.now in
+    let m = d.run in
     let inv = c.loop-reached.invariant in
     let rest = c.loop-reached.rest.now in
     let (j, at, runs) = inv.runs in
@@ -89,7 +94,8 @@ returns-then-step-clause-visits c =
 
 pub returns-in_default-next-clause-visits : goal.returns-in_default-next-clause-visits
 returns-in_default-next-clause-visits c =
-    let m = c.args.automaton.now in
+    let d = c.args.dfa.now in
+    let m = d.run in
     let inv = c.loop-reached.invariant in
     let rest = c.loop-reached.rest.now in
     let (j, at, runs) = inv.runs in
@@ -112,8 +118,9 @@ read_stepped-requires-clause-row c =
 
 pub returns-in-Ok-read_stepped-clause-reached : goal.returns-in-Ok-read_stepped-clause-reached
 returns-in-Ok-read_stepped-clause-reached c =
-    let m = c.args.automaton.now in
-    let rows = c.loop-reached.self in
+    let d = c.args.dfa.now in
+    let m = d.run in
+    let rows = c.loop-reached.rows in
     let inv = c.loop-reached.invariant in
     let rest = c.loop-reached.rest.now in
     let (j, at, runs) = inv.runs in
@@ -125,14 +132,15 @@ returns-in-Ok-read_stepped-clause-reached c =
     let (j', at', finds) = left.row in
     let step = c.leave-step.ensures.step j' at' in
     let (next, there, goes) = rw c.in-Some-next.is at step.next in
-    read_on m c.read_stepped.new.self (AcceptsRow m c.leave-step.new.self next) (IsReached m) after c.args.text.now c.in-Ok-read_stepped.reached
+    read_on d c.read_stepped.new.self (AcceptsRow m c.leave-step.new.self next) (IsReached m) after c.args.text.now c.in-Ok-read_stepped.reached
     (λ z k. iff_trans (iff_trans (at_quiet (half m) (AcceptsRow m rows j') (AcceptsRow m c.leave-step.new.self next) b goes
     (λ d low a. true≢false (sym (step.marks.1 (d, low, a)) ∙ c.if-step.false)) (after ++ z) k) (rw more at finds z k)) (runs z k))
     (rw c.in-Ok-read_stepped.is at c.read_stepped.ensures.reached next there)
 
 pub returns-in-Ok-read_stepped-clause-visits : goal.returns-in-Ok-read_stepped-clause-visits
 returns-in-Ok-read_stepped-clause-visits c =
-    let m = c.args.automaton.now in
+    let d = c.args.dfa.now in
+    let m = d.run in
     let inv = c.loop-reached.invariant in
     let rest = c.loop-reached.rest.now in
     let (j, at, runs) = inv.runs in
@@ -176,8 +184,9 @@ loop-reached-smaller c =
 
 pub loop-reached-preserved : goal.loop-reached-preserved
 loop-reached-preserved c =
-    let m = c.args.automaton.now in
-    let rows = c.loop-reached.self in
+    let d = c.args.dfa.now in
+    let m = d.run in
+    let rows = c.loop-reached.rows in
     let inv = c.loop-reached.invariant in
     let rest = c.loop-reached.rest.now in
     let (j, at, runs) = inv.runs in
@@ -198,6 +207,7 @@ loop-reached-preserved c =
     let parts : length after ≡ length (drop p after) + p = omega (arith, length-drop p after, stepped.within) in
     rw (take_rest after p) record {
       sound = c.read_stepped.ensures.sound;
+      fits = c.read_stepped.ensures.fits;
       runs = (
         last,
         here,
