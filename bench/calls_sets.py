@@ -7,8 +7,8 @@ import subprocess
 import workloads
 
 # The patterns of an ignore file, as they stand there.
-IGNORE_FILE = """target/ /dist/ vendor/* keep.txt *.o *.a *.so *.lock *.log node_modules/ .env .env.* /build/** **/cache/*.json *.png
-*.gif [Tt]humbs.db *~ *.sw[a-p] __pycache__/ *.py[co] /docs/**/*.html src/**/*.bak lib/*/generated *.min.js /assets/*.svg
+IGNORE_FILE = """target/ /dist/ vendor/* keep.txt *.o *.a *.so *.lock *.log node_modules/ .env .env.* /build/** **/cache/*.json
+*.png *.gif [Tt]humbs.db *~ *.sw[a-p] __pycache__/ *.py[co] /docs/**/*.html src/**/*.bak lib/*/generated *.min.js /assets/*.svg
 test_?[0-9]* /tools/** .*.lock *.tmp""".split()
 PLAIN = re.compile("[A-Za-z0-9_][A-Za-z0-9_./+-]*")
 

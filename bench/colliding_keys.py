@@ -99,8 +99,8 @@ def ends_in_first_groups(start, groups):
 def by_byte(count, of):
     """Different keys that collide in std's `HashMap` of another number of keys when each byte is hashed in a write of its own.
 
-    The map puts 9 keys or fewer in a group of 12 lanes, and goes on with the next group where one is full. So keys of the same tag
-    in an eighth of the groups are compared with most of the others.
+    The map puts 9 keys or fewer in a group of 12 lanes, and goes on with the next group where one is full. So keys of the same
+    tag in an eighth of the groups are compared with most of the others.
     """
     groups = 1
     while 9 * groups < of:

@@ -66,7 +66,7 @@ PLACEHOLDER = re.compile("PATH|NAME|DIR|EXT|WORD")
 
 
 class Words:
-    """The words of some paths: half of the words that are drawn are from any path, the others from the list of different words."""
+    """The words of some paths: half of those that are drawn are from any path, the others from the list of different words."""
 
     def __init__(self, paths):
         self.paths = [path for path in paths if re.fullmatch("[A-Za-z0-9_][A-Za-z0-9_./+-]*", path)]

@@ -86,7 +86,7 @@ def download_crates(address):
 
 
 def find_crates(given, address, crate="globset"):
-    """The folder of crates, with this one among them, to build a baseline from: a given one, the installed one, or a downloaded one.
+    """The folder of crates, with this one among them, to build a baseline from: a given one, the installed or a downloaded one.
 
     It is downloaded from the mirror with this address, or, if that is None, from the system's own.
     """

@@ -1,7 +1,8 @@
-"""What an ignore file says of a path: the definitions of the crates `ignore_pattern` and `git_ignore` once more, as plain functions.
+"""What an ignore file says of a path: the definitions of the crates `ignore_pattern` and `git_ignore`, as plain functions.
 
 This program is written from their `specs`, and is meant to be read beside them: the comments name the files. It shares no code
-with the crates. Nothing is done for speed but that results of a few functions are kept. `ignore_case` is git's setting `core.ignoreCase`.
+with the crates. Nothing is done for speed but that results of a few functions are kept. `ignore_case` is git's setting
+`core.ignoreCase`.
 """
 
 from functools import lru_cache
@@ -29,7 +30,7 @@ def without_spaces(text):
 
 
 def line_text(line):
-    """Returns what a pattern is read from: no carriage return at the end, nothing from the first NUL on, and no spaces at the end."""
+    """Returns what a pattern is read from: no carriage return at the end, nothing from the first NUL on, and no last spaces."""
     return without_spaces(line.removesuffix(b"\r").split(b"\0")[0])
 
 
@@ -295,7 +296,7 @@ def rule_below(files, path, is_folder, ignore_case):
 
 
 def nearest_rule(files, path, is_folder, ignore_case):
-    """Returns the rule that decides by the nearest decision: that of the path alone, or of the nearest folder above it with one."""
+    """Returns the rule that decides by the nearest decision: of the path alone, or of the nearest folder above it with one."""
     found = files_rule(files, path, is_folder, ignore_case)
     while not found and b"/" in path:
         path = path.rpartition(b"/")[0]

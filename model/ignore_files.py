@@ -9,16 +9,20 @@ import re
 from typing import NamedTuple
 
 WORDS = [b"a", b"b", b"c", b"ab", b"foo", b"a.c", b"x"]
-ODD_WORDS = ["é", "ü¿", "日本", "a b", " a", "a ", "\t", "a\r", "#a", "!a", "-", "]", "[", "^", "{a,b}", "a,b", "\\", "*", "a\\b", "😀"]
-ODD_WORDS = [word.encode() for word in ODD_WORDS] + [b"\xff", b"\xc3", b"\xef\xbb\xbf", b"\x7f", b"\x0b", b"\n"]
+ODD_WORDS = ["é", "ü¿", "日本", "a b", " a", "a ", "\t", "a\r", "#a", "!a", "-", "]", "[", "^", "{a,b}", "a,b", "\\", "*", "a\\b"]
+ODD_WORDS = [word.encode() for word in [*ODD_WORDS, "😀"]] + [b"\xff", b"\xc3", b"\xef\xbb\xbf", b"\x7f", b"\x0b", b"\n"]
 FOLDERS = [b"a/", b"b/", b"x/", b"a/b/", b"foo/", b"a/b/c/", "é/".encode(), b"[a]/", b"a*/"]
 NAMES = "alnum alpha blank cntrl digit graph lower print punct space upper xdigit word Alpha".split() + [""]
 CHARACTERS = [c.encode() for c in "abcxz09AZ.-]![^\\/:*? éé¿üÿ日\t{}"] + [b"-", b"-", b"]"]
 BYTES = [bytes((byte,)) for byte in b"abcxz09AZ.-]![^\\:*? \t\r\n\x0b\x7f\x80\xa9\xbf\xc0\xc3\xe9\xff{},#"]
-WHOLE_LINES = [b"", b"", b"#a", b"#", b" #a", b" ", b"!", b"!/", b"/", b"//", b"//a", b"\\", b"\r", b"*", b"/*", b"!*/", b"!/*", b"**", b"!a", b"\xff"]
+WHOLE_LINES = [b"", b"", b"#a", b"#", b" #a", b" ", b"!", b"!/", b"/", b"//", b"//a", b"\\", b"\r"]
+WHOLE_LINES += [b"*", b"/*", b"!*/", b"!/*", b"**", b"!a", b"\xff"]
 BEGINNINGS = [b""] * 10 + [b"!"] * 6 + [b"/"] * 4 + [b"!/", b"\\!", b"\\#", b"!!", b" ", b"!\\#", b"**/", b"./"]
-ENDINGS = [b""] * 16 + [b"/"] * 4 + [b"/**", b" ", b"  ", b"\\ ", b"\\  ", b"\\\\ ", b"\\", b"\\/", b"\t", b" \t", b"\r", b" \r", b"//", b"\0b", b" \0"]
+ENDINGS = [b""] * 16 + [b"/"] * 4 + [b"/**", b" ", b"  ", b"\\ ", b"\\  ", b"\\\\ ", b"\\", b"\\/", b"\t", b" \t"]
+ENDINGS += [b"\r", b" \r", b"//", b"\0b", b" \0"]
 SEPARATORS = [b"/"] * 16 + [b"\\/", b"//", b""]
+CLASS_ITEMS = [b"a-z", b"-", b"]-", b"[", b"\\]", b"a-\\]", b"--a", b"z-a", b"[.a.]"]
+CLASS_ITEMS += ["¿-¿".encode(), "a-é".encode(), "é-z".encode(), b"\xbf-\xc2", b"\x80-\xff", b"!"]
 
 
 class Case(NamedTuple):
@@ -53,12 +57,13 @@ def class_item(chance):
         return b"[:" + chance.choice(NAMES).encode() + chance.choice([b":]"] * 6 + [b":", b"]", b""])
     if kind < 0.9:
         return b"\\" + chance.choice(CHARACTERS)
-    return chance.choice([b"a-z", b"-", b"]-", b"[", b"\\]", b"a-\\]", b"--a", b"z-a", b"[.a.]", "¿-¿".encode(), "a-é".encode(), "é-z".encode(), b"\xbf-\xc2", b"\x80-\xff", b"!"])
+    return chance.choice(CLASS_ITEMS)
 
 
 def class_text(chance):
     items = b"".join(class_item(chance) for _ in range(chance.choice([1, 1, 1, 2, 2, 3])))
-    return b"[" + chance.choice([b"", b"", b"", b"!", b"^"]) + chance.choice([b""] * 8 + [b"]"]) + items + chance.choice([b"]"] * 20 + [b""])
+    begin = b"[" + chance.choice([b"", b"", b"", b"!", b"^"]) + chance.choice([b""] * 8 + [b"]"])
+    return begin + items + chance.choice([b"]"] * 20 + [b""])
 
 
 def piece(chance):
@@ -95,7 +100,8 @@ def line(chance):
     if kind < 0.12:
         return chance.choice(WHOLE_LINES)
     if kind < 0.3:
-        return chance.choice([b"", b"", b"!", b"/", b"x", b"!x"]) + class_text(chance) + chance.choice([b"", b"", b"", b"b", b"*", b"/b"])
+        before = chance.choice([b"", b"", b"!", b"/", b"x", b"!x"])
+        return before + class_text(chance) + chance.choice([b"", b"", b"", b"b", b"*", b"/b"])
     return (chance.choice(BEGINNINGS) + body(chance) + chance.choice(ENDINGS)).replace(b"\n", b"")
 
 
@@ -194,8 +200,12 @@ def with_above(folders):
 
 def with_capitals(chance, text):
     """Returns a text with some letters in upper case, outside names of classes."""
+
+    def letter(found):
+        return found[0].upper() if chance.random() < 0.25 else found[0]
+
     parts = re.split(rb"(\[:[a-z]*:\])", text)
-    return b"".join(part if at % 2 else re.sub(rb"[a-z]", lambda found: found[0].upper() if chance.random() < 0.25 else found[0], part) for at, part in enumerate(parts))
+    return b"".join(part if at % 2 else re.sub(rb"[a-z]", letter, part) for at, part in enumerate(parts))
 
 
 def case(seed, number, count):
@@ -204,12 +214,15 @@ def case(seed, number, count):
     folders = {b""} if chance.random() < 0.8 else set()
     folders.update(chance.sample(FOLDERS, chance.choice([0, 1, 1, 2, 3]) if folders else chance.choice([1, 2, 3])))
     ignore_case = number % 2 == 1
-    files = tuple((folder, with_capitals(chance, ignore_file(chance)) if ignore_case else ignore_file(chance)) for folder in sorted(folders, key=lambda folder: (folder.count(b"/"), folder)))
+    files = []
+    for folder in sorted(folders, key=lambda folder: (folder.count(b"/"), folder)):
+        text = ignore_file(chance)
+        files.append((folder, with_capitals(chance, text) if ignore_case else text))
     paths = tuple(random_path(chance, files) for _ in range(count))
     if ignore_case:
         paths = tuple(with_capitals(chance, path) for path in paths)
     made = {path for path in paths if chance.random() < 0.35} | {folder[:-1] for folder in folders if folder}
-    return Case(files, paths, with_above(made), ignore_case)
+    return Case(tuple(files), paths, with_above(made), ignore_case)
 
 
 def case_of(text, count, ignore_case):

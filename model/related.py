@@ -98,4 +98,3 @@ def related_globs(source):
     while not all(map(is_read, globs)):
         globs = made_list(source)
     return globs
-

@@ -11,8 +11,8 @@ import relations
 from globs import Glob, Options, Rejected, ValueRejected
 
 QUESTION = {
-    "read": 3, "glob": 3, "add": 3, "match": 4, "path": 2, "below": 2, "equal": 5, "offset": 3, "parts": 2, "escape": 2, "value": 2,
-    "array": 2, "covered": 3, "overlap": 4,
+    "read": 3, "glob": 3, "add": 3, "match": 4, "path": 2, "below": 2, "equal": 5, "offset": 3, "parts": 2, "escape": 2,
+    "value": 2, "array": 2, "covered": 3, "overlap": 4,
 }
 
 LETTERS = {

@@ -16,8 +16,8 @@ import tarfile
 import tempfile
 
 sys.path.insert(0, os.path.dirname(os.path.realpath(__file__)))
-import build_extension  # noqa: E402
-import build_wheel as wheels  # noqa: E402
+import build_extension
+import build_wheel as wheels
 
 HERE, TOP = wheels.HERE, wheels.TOP
 ARCHIVE = f"{TOP}/crates/globset_c/out/libglobset_c.a"

@@ -13,7 +13,7 @@ OUT = os.path.join(HERE, "out")
 sys.dont_write_bytecode = True
 sys.path.append(os.path.join(TOP, "bench"))
 
-import programs  # noqa: E402, the benchmark's, which knows where a mirror of Debian is
+import programs  # the benchmark's, which knows where a mirror of Debian is
 
 
 def say(text):

@@ -53,7 +53,7 @@ class Indexes(ctypes.Structure):
 
 
 class ToldRule(ctypes.Structure):
-    """globset_told_rule: the rule that decides about a path, and a number: 1 ignores the path, 2 keeps it, 0 is without a rule."""
+    """globset_told_rule: the rule that decides about a path, and a number: 1 ignores the path, 2 keeps it, 0 is no rule."""
 
     _fields_ = [("file", ctypes.c_size_t), ("line", ctypes.c_size_t), ("decision", ctypes.c_uint32)]
 

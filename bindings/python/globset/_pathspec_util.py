@@ -5,7 +5,7 @@ from __future__ import annotations
 import os
 import pathlib
 import stat
-from typing import Callable, Collection, Dict, Iterator, Optional, Tuple, Union
+from typing import Callable, Collection, Dict, Iterator, List, Optional, Tuple, Union
 
 __all__ = ["RecursionError", "TreeEntry", "append_dir_sep", "iter_tree_entries", "iter_tree_files", "normalize_file"]
 
@@ -114,15 +114,7 @@ def _entries(root: str, start: str, above: Dict[str, str], on_error: OnError, fo
     real = os.path.realpath(at)
     if real in above:
         raise RecursionError(real, above[real], start)
-    try:
-        with os.scandir(at) as scanned:
-            found = list(scanned)
-    except OSError as error:
-        if on_error is None:
-            raise
-        on_error(error)
-        return
-    for entry in found:
+    for entry in _scanned(at, on_error):
         try:
             stats = _stats(entry)
         except OSError as error:
@@ -135,6 +127,18 @@ def _entries(root: str, start: str, above: Dict[str, str], on_error: OnError, fo
             yield node
         if node.is_dir(follows):
             yield from _entries(root, path, {**above, real: start}, on_error, follows)
+
+
+def _scanned(directory: str, on_error: OnError) -> List["os.DirEntry[str]"]:
+    """Returns what is in a directory. If it cannot be read, that is nothing, after a call of ``on_error`` if it is given."""
+    try:
+        with os.scandir(directory) as scanned:
+            return list(scanned)
+    except OSError as error:
+        if on_error is None:
+            raise
+        on_error(error)
+        return []
 
 
 def _stats(entry: "os.DirEntry[str]") -> Tuple[os.stat_result, os.stat_result]:

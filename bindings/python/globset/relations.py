@@ -4,8 +4,8 @@ An answer that is about one path has a shortest such path, and the others hold f
 ``Glob.match`` does, also those that match nothing in a ``GlobSet``. Where a glob is asked for, a ``str`` is read as one under the
 default options. The path of an answer is a ``str`` like those of ``os.fsdecode``: bytes that are not UTF-8 are surrogates in it.
 
-Each question searches over rows, and ``limit`` is how many a search may have. A row is a set of states of the globs together with a
-place in the domain. Paths may lead to exponentially many rows, but seldom do. Where a search has more, the answer is not known.
+Each question searches over rows, and ``limit`` is how many a search may have. A row is a set of states of the globs together with
+a place in the domain. Paths may lead to exponentially many rows, but seldom do. Where a search has more, the answer is not known.
 Searches release the interpreter's lock, and take memory that is at most linear in the rows, times the states of the globs.
 
 >>> from globset import relations
@@ -42,7 +42,8 @@ class Domain(enum.Enum):
 
     #: All lists of bytes.
     ALL_PATHS = 0
-    #: Relative paths as file systems have them: components with a ``/`` between them; none is empty, ``.`` or ``..``, or has a NUL.
+    #: Relative paths as file systems have them: components with a ``/`` between them. None is empty, ``.`` or ``..``, or has a
+    #: NUL.
     RELATIVE_PATHS = 1
 
 

@@ -19,7 +19,7 @@ import threading
 import weakref
 
 import globset
-from globset import Glob, GlobError, GlobSet, IgnoreRules, IgnoreStack, escape, relations
+from globset import Glob, GlobSet, IgnoreRules, IgnoreStack, escape, relations
 
 PATTERNS = ["*.py", "src/**", "{a,b}*", "[a-c]?", "**", "a\\*", "é*", "*a*b*c", "", "x" * 300, "**/..", "[!x]*"]
 REJECTED = ["[a", "[z-a]", "a}", "{a", "\\", "\udc80", "a\ud800"]
@@ -69,9 +69,8 @@ class Misuse:
         """Returns what may stand where paths are wanted."""
         count = self.rng.choice([0, 1, 5, 40, 1100])
         many = [self.path() if self.chance(0.1) else self.rng.choice(PATHS) for _ in range(count)]
-        return self.rng.choice(
-            [lambda: many, lambda: tuple(many), lambda: iter(many), lambda: Changing(self, many), lambda: failing(many), self.path]
-        )()
+        kinds = [lambda: many, lambda: tuple(many), lambda: iter(many), lambda: Changing(self, many), lambda: failing(many)]
+        return self.rng.choice([*kinds, self.path])()
 
     def one(self):
         """Returns an object of those that are shared, or a new one."""

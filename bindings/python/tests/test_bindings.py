@@ -70,8 +70,8 @@ import globset
             GLOBSET_BINDING="",
         )
         self.assertEqual(ran.returncode, 1)
-        for text in [b"ImportError: globset: neither its extension module nor ctypes", b"globset._extension", b"globset._library"]:
-            self.assertIn(text, ran.stderr)
+        for text in ["ImportError: globset: neither its extension module nor ctypes", "globset._extension", "globset._library"]:
+            self.assertIn(text.encode(), ran.stderr)
 
     def test_python_without_its_lock(self):
         ran = run_python("import sys; sys._is_gil_enabled = lambda: False; import globset")

@@ -23,7 +23,8 @@ class Documentation(unittest.TestCase):
         names = {name: getattr(globset, name) for name in globset.__all__}
         finder, runner = doctest.DocTestFinder(recurse=False), doctest.DocTestRunner()
         documented = [globset, *names.values()]
-        documented += [value for owner in [Glob, GlobSet] for name, value in inspect.getmembers(owner) if not name.startswith("_")]
+        members = [member for owner in [Glob, GlobSet] for member in inspect.getmembers(owner)]
+        documented += [value for name, value in members if not name.startswith("_")]
         for value in documented:
             for example in finder.find(value, name=repr(value), module=False, globs={"globset": globset, **names}):
                 runner.run(example)

@@ -24,8 +24,8 @@ from globset.relations import unreachable_rules
 from test_globset import IS_CTYPES, TOP, Number, TextPath, run_python
 
 sys.path.append(os.path.join(TOP, "model"))
-import git_rules  # noqa: E402
-import ignore_files  # noqa: E402
+import git_rules
+import ignore_files
 
 # Lines, a path, and the decision by git's rule, by the nearest decision, and about the path alone: the line, which is negative if
 # it has `!`, or 0. From docs/GIT_IGNORE.md, and from `git check-ignore`.

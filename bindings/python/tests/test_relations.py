@@ -1,4 +1,4 @@
-"""Tests of questions about all paths, by rows whose answers follow from the meaning of the globs, and by the answers of `match`."""
+"""Tests of questions about all paths, by rows whose answers follow from the meaning of the globs, and by answers of `match`."""
 
 import doctest
 import unittest
