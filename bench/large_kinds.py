@@ -50,7 +50,7 @@ def folded(rng, index):
     return f"**/{rng.choice(WORDS)}{rng.choice(WORDS)}{index}.{rng.choice(EXTENSIONS)}"
 
 
-def two_parts(rng, index):
+def two_words(rng, index):
     return f"*{rng.choice(WORDS)}{index}*{rng.choice(WORDS)}{index % 97}*"
 
 
@@ -109,7 +109,7 @@ KINDS = {
     "endings": ([], endings),
     "names": ([], names),
     "folded": (["-i"], folded),
-    "two parts": ([], two_parts),
+    "two words": ([], two_words),
     "no digits": ([], no_digits),
     "classes": ([], classes),
     "pairs": ([], pairs),

@@ -90,7 +90,7 @@ def owners():
     return globs
 
 
-def parts_in_order():
+def words_in_order():
     """1,000 globs, each of two words that a path contains in this order."""
     rng = random.Random(15)
     return [
@@ -150,7 +150,7 @@ def workloads(lines):
         ("1,000-byte paths", LONG_PATH_GLOBS, long),
         ("1,000-byte paths, -n", ["-n"] + LONG_PATH_GLOBS, long),
         ("1,000 infixes with digits", infixes_with_digits(), usual[: max(1, lines // 20)]),
-        ("1,000 with two parts", parts_in_order(), usual[: max(1, lines // 20)]),
+        ("1,000 with two words in order", words_in_order(), usual[: max(1, lines // 20)]),
         ("1,000 below folders, -s", ["-s"] + folders_below_folders(), few),
     ]
 
@@ -162,7 +162,7 @@ KINDS = {
     "extensions": lambda index: f"*.x{index}",
     "prefixes": lambda index: f"folder{index}/**",
     "suffixes": lambda index: f"*_{index}_test",
-    "two parts": lambda index: f"*a{index}*b{index}*",
+    "two numbers": lambda index: f"*a{index}*b{index}*",
 }
 
 
@@ -172,5 +172,5 @@ def globs_of_kind(kind, count):
 
 def direct_globs(count):
     """Globs that hash tables and tries decide, a fifth of each kind."""
-    kinds = [kind for kind in KINDS if kind != "two parts"]
+    kinds = [kind for kind in KINDS if kind != "two numbers"]
     return [KINDS[kinds[index % len(kinds)]](index) for index in range(count)]

@@ -22,9 +22,9 @@ static const globset_error no_error = {0, 0, 0, 0};
 
 const char *globset_status_text(int status) {
     static const char *const errors[] = {
-        "the call did what it is for, or the answer is no",
+        "success, or the answer is no",
         "a pointer is null that must not be",
-        "memory ran out",
+        "out of memory",
         "the text is no glob",
         "the text of a glob is not UTF-8",
         "the options have an unknown bit, or there is no such domain or choice",

@@ -127,7 +127,7 @@ enum {
     GLOBSET_EINDEX = -12   /* there is no answer, ignore file or line of this index */
 };
 
-/* Returns what a result means, for people: "memory ran out" and the like. The text is static and never null. */
+/* Returns what a result means, for people: "out of memory" and the like. The text is static and never null. */
 const char *globset_status_text(int status);
 
 /* ---- Options and errors of globs ---- */

@@ -438,7 +438,7 @@ static void status_texts(void) {
     for (int status = 1; status >= GLOBSET_EINDEX; status--)
         for (int other = 1; other > status; other--)
             CHECK(strcmp(globset_status_text(status), globset_status_text(other)) != 0);
-    CHECK(strcmp(globset_status_text(GLOBSET_ENOMEM), "memory ran out") == 0);
+    CHECK(strcmp(globset_status_text(GLOBSET_ENOMEM), "out of memory") == 0);
     CHECK(strcmp(globset_status_text(GLOBSET_ENULL), "a pointer is null that must not be") == 0);
     CHECK(strcmp(globset_status_text(GLOBSET_ENONE), "the error is none, so it says nothing") == 0);
     CHECK(strstr(globset_status_text(GLOBSET_EOPTIONS), "no such domain or choice") != NULL);
