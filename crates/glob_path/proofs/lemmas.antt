@@ -13,6 +13,7 @@ pub mod Under
 pub mod Walks
 pub mod Anchors
 pub mod Ranges
+pub mod Runs
 pub mod Children
 pub mod Spans
 pub mod Standing

@@ -5,8 +5,8 @@
 //! [`TableBuilder`] takes keys with their indexes, and [`Table`] looks up a key. A lookup takes a borrowed key, so nothing is
 //! copied for it, and is a visit. It compares few keys, even if they are adversarial.
 //!
-//! A [`Trie`] is built from all its texts at once. A walk over a path reads a node for each byte, and ends as soon as no text
-//! goes on as the path does.
+//! A [`Trie`] is built from all its texts at once. A walk over a path reads a node only where texts part or end, and ends as soon
+//! as no text goes on as the path does.
 //!
 //! Nothing here knows globs.
 #![tactic(auto)]

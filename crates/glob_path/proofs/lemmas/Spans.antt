@@ -9,9 +9,11 @@ use Rattle.std.proofs.lemmas.List.{map-append, length-drop}
 use Rattle.glob_path.specs.Entries.{Entry, indexes_under}
 use Rattle.glob_path.specs.declared.trie.Text.{Text}
 use Rattle.glob_path.specs.declared.tree.Span.{Span}
-use Rattle.glob_path.specs.inner.Building.{rest_of, next_of, rests, rests_of, IsUpTo, IsSpan, picked, IsSplit}
+use Rattle.glob_path.specs.inner.Building.{rest_of, next_of, rests, rests_of, IsOrdered, IsUpTo, IsSpan, AreSpans, picked, IsSplit, ShareRun}
 use Rattle.glob_path.proofs.lemmas.Ranges.{all_in_range, range_split, range-map, all_append, all_weaker, rising_push}
-use Rattle.glob_path.proofs.lemmas.Walks.{drop_some, drop_none}
+use Rattle.glob_path.specs.inner.Nodes.{past}
+use Rattle.glob_path.proofs.lemmas.Runs.{past_byte, past_same, past_push}
+use Rattle.glob_path.proofs.lemmas.Walks.{drop_some, drop_none, within_some}
 
 pub under_append : (es fs : List Entry) (k : List ℕ) → indexes_under (es ++ fs) k ≡ indexes_under es k ++ indexes_under fs k
 under_append [] fs k = refl
@@ -78,14 +80,14 @@ run_not d (t ∷ ts) h =
 pub rests_split : (texts : List Text) (d i j k : ℕ) → i ≤ j → j ≤ k → rests texts d i k ≡ rests texts d i j ++ rests texts d j k
 rests_split texts d i j k a b = ap (map (rest_of d)) (range_split texts i j k a b) ∙ map-append (rest_of d) (slice_range texts i j) (slice_range texts j k)
 
-picked_push : (texts : List Text) (d : ℕ) (bs : List ℕ) (ss : List Span) (x : ℕ) (s : Span) (b : ℕ) (w : List ℕ) → length bs ≡ length ss → AllByRecursion (λ y. y < x) bs →
-    picked texts d (bs ++ x ∷ []) (ss ++ s ∷ []) b w ≡ picked texts d bs ss b w ++ cond (x == b) (indexes_under (rests_of texts d s) w) []
-picked_push texts d [] [] x s b w n h = refl
-picked_push texts d [] (r ∷ ss) x s b w n h = absurd (omega arith)
-picked_push texts d (y ∷ bs) [] x s b w n h = absurd (omega arith)
-picked_push texts d (y ∷ bs) (r ∷ ss) x s b w n h =
-    ap (cond (y == b) (indexes_under (rests_of texts d r) w)) (picked_push texts d bs ss x s b w (omega arith) h.1)
-    ∙ apart (y == b) (x == b) (indexes_under (rests_of texts d r) w) (picked texts d bs ss b w) (indexes_under (rests_of texts d s) w)
+picked_push : (texts : List Text) (bs : List ℕ) (ss : List Span) (x : ℕ) (s : Span) (b : ℕ) (w : List ℕ) → length bs ≡ length ss → AllByRecursion (λ y. y < x) bs →
+    picked texts (bs ++ x ∷ []) (ss ++ s ∷ []) b w ≡ picked texts bs ss b w ++ cond (x == b) (indexes_under (rests_of texts s) w) []
+picked_push texts [] [] x s b w n h = refl
+picked_push texts [] (r ∷ ss) x s b w n h = absurd (omega arith)
+picked_push texts (y ∷ bs) [] x s b w n h = absurd (omega arith)
+picked_push texts (y ∷ bs) (r ∷ ss) x s b w n h =
+    ap (cond (y == b) (indexes_under (rests_of texts r) w)) (picked_push texts bs ss x s b w (omega arith) h.1)
+    ∙ apart (y == b) (x == b) (indexes_under (rests_of texts r) w) (picked texts bs ss b w) (indexes_under (rests_of texts s) w)
     (differ y x b h.0)
   where
     differ : (y x b : ℕ) → y < x → y == b ≡ true → x == b ≡ false
@@ -105,23 +107,44 @@ limit_head x y q r (inl l) = omega arith
 limit_head x y q r (inr h) = omega (arith, h.0)
 
 -- the span of a run, one byte further on
-run_span : (texts : List Text) (d from to at x : ℕ) (s : Span) → IsSpan texts d s → s.from ≤ from → from ≤ to → to ≤ s.to →
-    AllWithin (λ t. next_of d t ≡ Some x) texts from to → AllWithin (λ t. d < length t.bytes.items) texts s.from s.to → from < s.to → (e : Text) →
-    IsSpan texts (d + 1) (record { from = from; to = to })
-run_span texts d from to at x s h a b c run long l e = record {
+pub run_span : (texts : List Text) (least from to x : ℕ) (s : Span) → least ≤ s.depth + 1 → s.to ≤ length texts → IsOrdered texts s.depth s.from s.to → s.from ≤ from → from ≤ to → to ≤ s.to →
+    AllWithin (λ t. next_of s.depth t ≡ Some x) texts from to → AllWithin (λ t. s.depth < length t.bytes.items) texts s.from s.to → from < s.to → (e : Text) →
+    IsSpan texts least (record { from = from; to = to; depth = s.depth + 1 })
+run_span texts least from to x s few end ordered a b c run long l e = record {
   from = b;
-  to = omega (arith, h.to);
-  deep = λ n w. omega (arith, long from e a l, w from e (omega arith) (omega (arith, h.to)));
+  to = omega arith;
+  late = few;
+  deep = λ n w. omega (arith, long from e a l, w from e (omega arith) (omega arith));
   ordered = λ i j f g p q r.
       limit_tail x _ _
-      (subst (λ y. IsUpTo y (x ∷ drop (d + 1) (slice_index_or texts j g).bytes.items)) (drop_some (slice_index_or texts i f).bytes.items d x (run i f p (omega arith)))
-      (subst (λ y. IsUpTo (drop d (slice_index_or texts i f).bytes.items) y) (drop_some (slice_index_or texts j g).bytes.items d x (run j g (omega arith) r))
-      (h.ordered i j f g (omega arith) q (omega arith))));
+      (subst (λ y. IsUpTo y (x ∷ drop (s.depth + 1) (slice_index_or texts j g).bytes.items)) (drop_some (slice_index_or texts i f).bytes.items s.depth x (run i f p (omega arith)))
+      (subst (λ y. IsUpTo (drop s.depth (slice_index_or texts i f).bytes.items) y) (drop_some (slice_index_or texts j g).bytes.items s.depth x (run j g (omega arith) r))
+      (ordered i j f g (omega arith) q (omega arith))));
 }
 
+-- texts that go on with a byte are longer
+pub run_long : (texts : List Text) (d from to x : ℕ) → AllWithin (λ t. next_of d t ≡ Some x) texts from to → AllWithin (λ t. d < length t.bytes.items) texts from to
+run_long texts d from to x run = λ k e a b. within_some (slice_index_or texts k e).bytes.items d x (run k e a b)
+
+some_text : (texts : List Text) → 0 < length texts → Text
+some_text [] l = absurd (omega arith)
+some_text (t ∷ texts) l = t
+
+-- a whole span, one byte further on
+pub whole_span : (texts : List Text) (least x : ℕ) (s : Span) → IsSpan texts least s → AllWithin (λ t. next_of s.depth t ≡ Some x) texts s.from s.to → s.from < s.to →
+    IsSpan texts least (record { from = s.from; to = s.to; depth = s.depth + 1 })
+whole_span texts least x s h run l =
+    run_span texts least s.from s.to x s (omega (arith, h.late)) h.to h.ordered (omega arith) h.from (omega arith) run (run_long texts s.depth s.from s.to x run) l
+    (some_text texts (omega (arith, h.to)))
+
+-- a span after at least fewer bytes
+pub spans_lower : (texts : List Text) (least d : ℕ) (ss : List Span) → least ≤ d → AreSpans texts d ss → AreSpans texts least ss
+spans_lower texts least d ss l h =
+    all_weaker (IsSpan texts d) (IsSpan texts least) (λ s m. record { from = m.from; to = m.to; late = omega (arith, m.late); deep = m.deep; ordered = m.ordered }) ss h
+
 -- the split of no texts
-pub split_none : (texts : List Text) (d : ℕ) → (n : ℕ) → IsSplit texts d (rests texts d n n) [] []
-split_none texts d n = record {
+pub split_none : (texts : List Text) (least d : ℕ) → (n : ℕ) → IsSplit texts least (rests texts d n n) [] []
+split_none texts least d n = record {
   len = refl;
   rising = λ k l. absurd (omega arith);
   picks = λ b w. ap (λ m. indexes_under (map (rest_of d) (take m (drop n texts))) (b ∷ w)) (sym (minus n));
@@ -132,32 +155,55 @@ split_none texts d n = record {
     minus n = omega arith
 
 -- the split, and one more run
-pub split_more : (texts : List Text) (d from to x : ℕ) (s : Span) (bs : List ℕ) (ss : List Span) → IsSpan texts d s → s.from ≤ from → from < to → to ≤ s.to →
-    AllWithin (λ t. next_of d t ≡ Some x) texts from to → AllWithin (λ t. d < length t.bytes.items) texts s.from s.to → AllByRecursion (λ y. y < x) bs → (e : Text) →
-    IsSplit texts d (rests texts d s.from from) bs ss → IsSplit texts d (rests texts d s.from to) (bs ++ x ∷ []) (ss ++ record { from = from; to = to } ∷ [])
-split_more texts d from to x s bs ss h a b c run long above e v =
-    let next : Span = record { from = from; to = to } in record {
+pub split_more : (texts : List Text) (from to x : ℕ) (s : Span) (bs : List ℕ) (ss : List Span) → s.to ≤ length texts → IsOrdered texts s.depth s.from s.to → s.from ≤ from → from < to → to ≤ s.to →
+    AllWithin (λ t. next_of s.depth t ≡ Some x) texts from to → AllWithin (λ t. s.depth < length t.bytes.items) texts s.from s.to → AllByRecursion (λ y. y < x) bs → (e : Text) →
+    IsSplit texts (s.depth + 1) (rests texts s.depth s.from from) bs ss →
+    IsSplit texts (s.depth + 1) (rests texts s.depth s.from to) (bs ++ x ∷ []) (ss ++ record { from = from; to = to; depth = s.depth + 1 } ∷ [])
+split_more texts from to x s bs ss end ordered a b c run long above e v =
+    let d = s.depth in
+    let next : Span = record { from = from; to = to; depth = d + 1 } in record {
       len = omega (arith, v.len, length-append bs (x ∷ []), length-append ss (next ∷ []));
       rising = rising_push bs x v.rising above;
       picks = λ k w.
-          picked_push texts (d + 1) bs ss x next k w v.len above
+          picked_push texts bs ss x next k w v.len above
           ∙ ap (λ l. l ++ cond (x == k) (indexes_under (rests texts (d + 1) from to) w) []) (v.picks k w)
           ∙ ap (λ l. indexes_under (rests texts d s.from from) (k ∷ w) ++ l) (sym (run_under d x (slice_range texts from to) (all_in_range (λ t. next_of d t ≡ Some x) texts from to run) k w))
           ∙ sym (under_append (rests texts d s.from from) (rests texts d from to) (k ∷ w))
           ∙ ap (λ l. indexes_under l (k ∷ w)) (sym (rests_split texts d s.from from to a (omega arith)));
-      spans = all_append (IsSpan texts (d + 1)) ss (next ∷ []) v.spans (run_span texts d from to 0 x s h a (omega arith) c run long (omega arith) e, tt);
+      spans = all_append (IsSpan texts (d + 1)) ss (next ∷ []) v.spans (run_span texts (d + 1) from to x s (omega arith) end ordered a (omega arith) c run long (omega arith) e, tt);
     }
 
+-- a run of no bytes
+pub shared_none : (texts : List Text) (s : Span) → ShareRun texts s [] s
+shared_none texts s = λ w. refl
+
+byte_shared : (texts : List Text) (x : ℕ) (a : Span) → AllWithin (λ t. next_of a.depth t ≡ Some x) texts a.from a.to → AllWithin (λ t. a.depth < length t.bytes.items) texts a.from a.to →
+    (v : List ℕ) → indexes_under (rests_of texts a) v ≡ past (x ∷ []) (indexes_under (rests texts (a.depth + 1) a.from a.to)) v
+byte_shared texts x a run long [] = run_not a.depth (slice_range texts a.from a.to) (all_in_range (λ t. a.depth < length t.bytes.items) texts a.from a.to long)
+byte_shared texts x a run long (b ∷ w) =
+    let f = indexes_under (rests texts (a.depth + 1) a.from a.to) in
+    run_under a.depth x (slice_range texts a.from a.to) (all_in_range (λ t. next_of a.depth t ≡ Some x) texts a.from a.to run) b w
+    ∙ past_byte (x == b) (Some w) f (f w) refl
+
+-- a run, and one more byte
+pub shared_more : (texts : List Text) (x : ℕ) (s a : Span) (run : List ℕ) → AllWithin (λ t. next_of a.depth t ≡ Some x) texts a.from a.to →
+    ShareRun texts s run a → ShareRun texts s (run ++ x ∷ []) (record { from = a.from; to = a.to; depth = a.depth + 1 })
+shared_more texts x s a run all h = λ w.
+    let f = indexes_under (rests texts (a.depth + 1) a.from a.to) in
+    h w
+    ∙ past_same _ (indexes_under (rests_of texts a)) (past (x ∷ []) f) (byte_shared texts x a all (run_long texts a.depth a.from a.to x all))
+    ∙ sym (past_push run x f w)
+
 -- the next run goes on with a higher byte
-pub above_more : (texts : List Text) (d from to x : ℕ) (s : Span) (bs : List ℕ) → IsSpan texts d s → s.from ≤ from → from < to → to < s.to →
+pub above_more : (texts : List Text) (d from to x : ℕ) (s : Span) (bs : List ℕ) → IsOrdered texts d s.from s.to → s.from ≤ from → from < to → to < s.to →
     AllWithin (λ t. next_of d t ≡ Some x) texts from to → HoldsAt (λ t. next_of d t ≢ Some x) texts to → AllByRecursion (λ y. y < x) bs →
     (y : ℕ) (e : Text) → next_of d (slice_index_or texts to e) ≡ Some y → AllByRecursion (λ z. z < y) (bs ++ x ∷ [])
-above_more texts d from to x s bs h a b c run stop above y e n =
+above_more texts d from to x s bs ordered a b c run stop above y e n =
     let at = drop_some (slice_index_or texts from e).bytes.items d x (run from e (omega arith) b) in
     let next = drop_some (slice_index_or texts to e).bytes.items d y n in
     let up = limit_head x y _ _
     (subst (λ q. IsUpTo q (y ∷ drop (d + 1) (slice_index_or texts to e).bytes.items)) at
-    (subst (λ q. IsUpTo (drop d (slice_index_or texts from e).bytes.items) q) next (h.ordered from to e e a (omega arith) c))) in
+    (subst (λ q. IsUpTo (drop d (slice_index_or texts from e).bytes.items) q) next (ordered from to e e a (omega arith) c))) in
     let higher : x < y = ⊎_elim (λ (l : x < y). l) (λ (g : y ≤ x). absurd (stop e (n ∙ ap Some (same y x g up)))) (cases_lt x y) in
     all_append (λ z. z < y) bs (x ∷ []) (all_weaker (λ z. z < x) (λ z. z < y) (λ z l. omega arith) bs above) (higher, tt)
   where
@@ -191,34 +237,37 @@ limit_some (x ∷ q) [] h l = absurd h
 limit_some (x ∷ q) (y ∷ r) h l = omega arith
 
 -- after those that end, each text goes on
-pub long_rest : (texts : List Text) (d own : ℕ) (s : Span) → IsSpan texts d s → s.from ≤ own →
-    (own < s.to → HoldsAt (λ t. next_of d t ≢ None) texts own) → AllWithin (λ t. d < length t.bytes.items) texts own s.to
-long_rest texts d own s h a stop k e b c =
+pub long_rest : (texts : List Text) (own : ℕ) (s : Span) → IsOrdered texts s.depth s.from s.to → s.from ≤ own →
+    (own < s.to → HoldsAt (λ t. next_of s.depth t ≢ None) texts own) → AllWithin (λ t. s.depth < length t.bytes.items) texts own s.to
+long_rest texts own s ordered a stop k e b c =
+    let d = s.depth in
     let first = (slice_index_or texts own e).bytes.items in
     let here = (slice_index_or texts k e).bytes.items in
     let longer : d < length first =
     ⊎_elim (λ (l : d < length first). l) (λ (g : length first ≤ d). absurd (stop (omega arith) e (get_none first d g))) (cases_lt d (length first)) in
-    let some = limit_some (drop d first) (drop d here) (h.ordered own k e e a b c) (omega (arith, length-drop d first)) in
+    let some = limit_some (drop d first) (drop d here) (ordered own k e e a b c) (omega (arith, length-drop d first)) in
     omega (arith, some, length-drop d here)
 
 -- those that end do not count under a longer text
-pub split_whole : (texts : List Text) (d own : ℕ) (s : Span) (bs : List ℕ) (ss : List Span) → s.from ≤ own → own ≤ s.to → AllWithin (λ t. next_of d t ≡ None) texts s.from own →
-    IsSplit texts d (rests texts d own s.to) bs ss → IsSplit texts d (rests_of texts d s) bs ss
-split_whole texts d own s bs ss a b run v = record {
+pub split_whole : (texts : List Text) (least own : ℕ) (s : Span) (bs : List ℕ) (ss : List Span) → s.from ≤ own → own ≤ s.to → AllWithin (λ t. next_of s.depth t ≡ None) texts s.from own →
+    least ≤ s.depth → IsSplit texts (s.depth + 1) (rests texts s.depth own s.to) bs ss → IsSplit texts (least + 1) (rests_of texts s) bs ss
+split_whole texts least own s bs ss a b run few v = record {
   len = v.len;
   rising = v.rising;
   picks = λ k w.
+      let d = s.depth in
       v.picks k w
       ∙ ap (λ l. l ++ indexes_under (rests texts d own s.to) (k ∷ w)) (sym (own_not d (slice_range texts s.from own) (all_in_range (λ t. next_of d t ≡ None) texts s.from own run) k w))
       ∙ sym (under_append (rests texts d s.from own) (rests texts d own s.to) (k ∷ w))
       ∙ ap (λ l. indexes_under l (k ∷ w)) (sym (rests_split texts d s.from own s.to a b));
-  spans = v.spans;
+  spans = spans_lower texts (least + 1) (s.depth + 1) ss (omega arith) v.spans;
 }
 
 -- the indexes of those that end
-pub own_held : (texts : List Text) (d own : ℕ) (s : Span) → s.from ≤ own → own ≤ s.to → AllWithin (λ t. next_of d t ≡ None) texts s.from own →
-    AllWithin (λ t. d < length t.bytes.items) texts own s.to → slice_range (map (λ t. t.index) texts) s.from own ≡ indexes_under (rests_of texts d s) []
-own_held texts d own s a b run long =
+pub own_held : (texts : List Text) (own : ℕ) (s : Span) → s.from ≤ own → own ≤ s.to → AllWithin (λ t. next_of s.depth t ≡ None) texts s.from own →
+    AllWithin (λ t. s.depth < length t.bytes.items) texts own s.to → slice_range (map (λ t. t.index) texts) s.from own ≡ indexes_under (rests_of texts s) []
+own_held texts own s a b run long =
+    let d = s.depth in
     range-map (λ t. t.index) texts s.from own
     ∙ sym (own_under d (slice_range texts s.from own) (all_in_range (λ t. next_of d t ≡ None) texts s.from own run))
     ∙ sym (append-nil (indexes_under (rests texts d s.from own) []))

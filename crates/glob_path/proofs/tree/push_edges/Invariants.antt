@@ -1,4 +1,4 @@
-use Rattle.std.proofs.Common.{◌≡◌, ℕ, ◌<◌, ◌≤◌, ◌-◌, ◌++◌, List, Some}
+use Rattle.std.proofs.Common.{◌≡◌, ℕ, ◌+◌, ◌<◌, ◌≤◌, ◌-◌, ◌++◌, List, Some}
 use Rattle.std.specs.Prelude.{slice_index_or}
 use Rattle.std.specs.List.{AllByRecursion}
 use Rattle.glob_path.specs.declared.trie.Text.{Text}
@@ -14,8 +14,8 @@ invariant-loop-from l = record {
   ss : List Span;
   bytes : l.bytes.items ≡ l.initial.bytes.items ++ bs;
   next : l.next.items ≡ l.initial.next.items ++ ss;
-  split : IsSplit l.texts l.depth (rests l.texts l.depth l.span.from l.from) bs ss;
-  above : (y : ℕ) (e : Text) → l.from < l.span.to → next_of l.depth (slice_index_or l.texts l.from e) ≡ Some y → AllByRecursion (λ z. z < y) bs;
+  split : IsSplit l.texts (l.span.depth + 1) (rests l.texts l.span.depth l.span.from l.from) bs ss;
+  above : (y : ℕ) (e : Text) → l.from < l.span.to → next_of l.span.depth (slice_index_or l.texts l.from e) ≡ Some y → AllByRecursion (λ z. z < y) bs;
 }
 
 abbrev pub decreases-loop-from : goal.decreases-loop-from

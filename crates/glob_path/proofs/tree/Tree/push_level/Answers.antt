@@ -10,43 +10,42 @@ use Rattle.glob_path.proofs.tree.Tree.push_level.Goals as goal
 pub loop-span-init : goal.loop-span-init
 loop-span-init c =
     let ts = c.args.texts.now in
-    let d = c.args.depth in
-    let level = map (rests_of ts d) c.args.level.now in
+    let d = c.args.least in
+    let level = map (rests_of ts) c.args.level.now in
     let empty = sym c.clear.ensures.items in
     record {
-      stands = subst (λ xs. Stands ts c.args.self.now (level ++ map (rests_of ts (d + 1)) xs)) empty (subst (Stands ts c.args.self.now) (sym (append-nil level)) c.requires.stands);
+      stands = subst (λ xs. Stands ts c.args.self.now (level ++ map (rests_of ts) xs)) empty (subst (Stands ts c.args.self.now) (sym (append-nil level)) c.requires.stands);
       left = c.requires.spans;
       next = subst (AreSpans ts (d + 1)) empty tt;
     }
 
 pub push_node-requires : goal.push_node-requires
 push_node-requires c =
-    let none : Span = record { from = 0; to = 0 } in
+    let none : Span = record { from = 0; to = 0; depth = 0 } in
     let here = drop_at c.args.level.now c.loop-span.span-index none c.loop-span-test.true in
-    (subst (AreSpans c.args.texts.now c.args.depth) here c.loop-span.invariant.left).0
+    (subst (AreSpans c.args.texts.now c.args.least) here c.loop-span.invariant.left).0
 
 pub returns : goal.returns
 returns c =
     let ts = c.args.texts.now in
-    let d = c.args.depth in
     let done = drop_all c.loop-span.span-index c.args.level.now (omega (arith, c.loop-span-test.false)) in
     record {
-      stands = subst (λ l. Stands ts c.loop-span.self (map (rests_of ts d) l ++ map (rests_of ts (d + 1)) c.loop-span.next.items)) done c.loop-span.invariant.stands;
+      stands = subst (λ l. Stands ts c.loop-span.self (map (rests_of ts) l ++ map (rests_of ts) c.loop-span.next.items)) done c.loop-span.invariant.stands;
       spans = c.loop-span.invariant.next;
     }
 
 pub loop-span-preserved : goal.loop-span-preserved
 loop-span-preserved c =
     let ts = c.args.texts.now in
-    let d = c.args.depth in
+    let d = c.args.least in
     let level = c.args.level.now in
     let i = c.loop-span.span-index in
-    let none : Span = record { from = 0; to = 0 } in
+    let none : Span = record { from = 0; to = 0; depth = 0 } in
     let e = c.in_ok-push_node.ensures in
     let here = drop_at level i none c.loop-span-test.true in
     record {
-      stands = stands_more ts d (get_or level i none) c.loop-span.self c.push_node.new.self c.loop-span.next.items c.push_node.new.next.items (map (rests_of ts d) (drop (i + 1) level)) e
-          (subst (λ l. Stands ts c.loop-span.self (map (rests_of ts d) l ++ map (rests_of ts (d + 1)) c.loop-span.next.items)) here c.loop-span.invariant.stands);
+      stands = stands_more ts d (get_or level i none) c.loop-span.self c.push_node.new.self c.loop-span.next.items c.push_node.new.next.items (map (rests_of ts) (drop (i + 1) level)) e
+          (subst (λ l. Stands ts c.loop-span.self (map (rests_of ts) l ++ map (rests_of ts) c.loop-span.next.items)) here c.loop-span.invariant.stands);
       left = (subst (AreSpans ts d) here c.loop-span.invariant.left).1;
       next = subst (AreSpans ts (d + 1)) (sym e.new_spans) (all_append (IsSpan ts (d + 1)) c.loop-span.next.items e.spans c.loop-span.invariant.next e.split.spans);
     }

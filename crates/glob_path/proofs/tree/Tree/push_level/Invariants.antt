@@ -4,7 +4,7 @@ use Rattle.glob_path.proofs.tree.Tree.push_level.Given as goal
 
 abbrev pub invariant-loop-span : goal.invariant-loop-span
 invariant-loop-span l = record {
-  stands : Stands l.texts l.self (map (rests_of l.texts l.depth) (drop l.span-index l.level) ++ map (rests_of l.texts (l.depth + 1)) l.next.items);
-  left : AreSpans l.texts l.depth (drop l.span-index l.level);
-  next : AreSpans l.texts (l.depth + 1) l.next.items;
+  stands : Stands l.texts l.self (map (rests_of l.texts) (drop l.span-index l.level) ++ map (rests_of l.texts) l.next.items);
+  left : AreSpans l.texts l.least (drop l.span-index l.level);
+  next : AreSpans l.texts (l.least + 1) l.next.items;
 }
