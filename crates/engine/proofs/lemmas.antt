@@ -1,4 +1,5 @@
 -- Lemmas by topic.
+pub mod Memory
 pub mod Numbers
 pub mod Pools
 pub mod Rows

@@ -1,2 +1,3 @@
 pub mod Matching
+pub mod Memory
 pub mod inner

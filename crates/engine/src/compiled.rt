@@ -4,14 +4,15 @@ ghost use Rattle.std.specs.Prelude.{◌≡◌, ℕ, ◌+◌, ◌*◌, ◌≤◌,
 ghost use Rattle.byte_nfa.specs.Runs.{size, max_reads};
 ghost use Rattle.byte_nfa.specs.Steps.{IsReached};
 ghost use Rattle.bit_sets.specs.Indexes.{index_capacity};
-ghost use Rattle.byte_nfa.specs.Sets.{sets_capacity};
 ghost use Rattle.byte_nfa.specs.Live.{MatchesAfter};
 ghost use Rattle.engine.specs.Matching.{AddsReached};
+ghost use Rattle.engine.specs.Memory.{Fits, FitsAsBefore};
 
+use crate::memory::Memory;
 use crate::rows::RowSource;
 use crate::sharing::shared;
 use bit_sets::{ByteSet, IndexSet, Visits};
-use byte_nfa::{Nfa, Simulation, StateSets};
+use byte_nfa::{Nfa, Simulation};
 use lazy_dfa::Cache;
 use std::alloc::{AllocError, Global};
 use std::marker::Model;
@@ -130,48 +131,34 @@ impl Compiled {
         }
         self.source.rejects_last_byte(text, visits)
     }
-
-    /// Returns whether a call with these sets of states may take memory: whether they have no room for all states.
-    /// Where [`Compiled::growing`] was called, each may.
-    fn may_take_memory(&self, sets: &StateSets) -> bool {
-        self.always_grows || self.lack_room(sets)
-    }
-
-    /// Returns whether these sets of states have no room for all states.
-    fn lack_room(&self, sets: &StateSets) -> bool
-        ensures { (result ≡ false) ↔ (size self.now ≤ sets_capacity sets.now) }
-    {
-        !sets.has_capacity_for(self.source.state_count())
-    }
 }
 
 impl Compiled {
-    /// Puts the index of each end that a text leads to into a set, next to its contents. It reads the rows of the cache if there is
-    /// a cache. Otherwise it reads kept rows, or steps the automaton.
+    /// Puts the index of each end that a text leads to into a set, next to its contents. It reads the rows of the slot's cache if
+    /// there is one. Otherwise it reads kept rows, or steps the automaton.
     ///
-    /// It is at most `(text bytes + 1) * (states + 3 * starts)` visits. The old contents of the sets of states have no effect. If
-    /// the automaton is stepped, their room grows to its states. It allocates nothing if they have room for all states. After an
-    /// error some of the indexes may be in the set.
+    /// It is at most `(text bytes + 1) * (states + 3 * starts)` visits. If the automaton is stepped, the room of the memory grows
+    /// to its states. It allocates nothing if there is room for all states. After an error some of the indexes may be in the set.
     pub fn find(
         &self,
         text: &[u8],
-        sets: &mut StateSets,
-        cache: &mut Option<Cache>,
+        slot: usize,
+        memory: &mut Memory,
         found: &mut IndexSet,
         visits: &mut Visits,
     ) -> Result<(), AllocError>
-        // The set has room for each index, a given cache is for this automaton, and both stay so.
+        // The set has room for each index, and keeps that room. The slot is this automaton's, and the memory fits all that it
+        // fitted.
         requires count { self.now.index_count ≤ index_capacity found.old }
-        requires cache { IfSome cache.old (λ c. c ≡ self.now) }
-        ensures cache { cache.new ≡ cache.old }
+        requires fits { Fits memory.old slot self.now }
+        ensures kept { FitsAsBefore memory.old memory.new }
         ensures room { index_capacity found.new ≡ index_capacity found.old }
 
         // Success adds the index of each end that the text leads to.
         ensures reached { OnOk result (AddsReached self.now text.now found.old found.new) }
 
-        // The capacity of the sets of states is never lower than before. With room for each state the call succeeds.
-        ensures kept { sets_capacity sets.old ≤ sets_capacity sets.new }
-        ensures memory { size self.now ≤ sets_capacity sets.old → IsOk result }
+        // With room for each state the call succeeds.
+        ensures memory { size self.now ≤ memory.old.room → IsOk result }
 
         // The visits are bounded.
         ensures visits { visits.new ≤ visits.old + (length text.now + 1) * max_reads self.now }
@@ -180,16 +167,19 @@ impl Compiled {
         if self.leads_to_none(text, visits) {
             return Ok(());
         }
-        if let Some(cache) = cache {
-            cache.find(text, found, visits);
-            return Ok(());
-        }
-        if let Some(rows) = &self.rows {
-            if rows.find(text, self.may_take_memory(sets), found, visits) {
+        if slot < memory.caches.len() {
+            if let Some(cache) = &mut memory.caches[slot] {
+                cache.find(text, found, visits);
                 return Ok(());
             }
         }
-        self.simulation.find(text, sets, found, visits)
+        if let Some(rows) = &self.rows {
+            let may_make = memory.may_grow(self.always_grows, self.state_count());
+            if rows.find(text, may_make, found, visits) {
+                return Ok(());
+            }
+        }
+        self.simulation.find(text, &mut memory.sets, found, visits)
     }
 
     /// Returns whether a text leads to some end.
@@ -198,19 +188,19 @@ impl Compiled {
     pub fn is_match(
         &self,
         text: &[u8],
-        sets: &mut StateSets,
-        cache: &mut Option<Cache>,
+        slot: usize,
+        memory: &mut Memory,
         visits: &mut Visits,
     ) -> Result<bool, AllocError>
-        // A given cache is for this automaton, and stays so. The result says whether the text leads to some end.
-        requires { IfSome cache.old (λ c. c ≡ self.now) }
-        ensures cache { cache.new ≡ cache.old }
+        // The slot is this automaton's, and the memory fits all that it fitted. The result says whether the text leads to some
+        // end.
+        requires { Fits memory.old slot self.now }
+        ensures kept { FitsAsBefore memory.old memory.new }
         ensures some { IfOk result
             (λ yes. IsTrue yes ↔ ((k : ℕ) × IsReached self.now text.now k)) }
 
-        // The capacity of the sets of states is never lower than before. With room for each state the call succeeds.
-        ensures kept { sets_capacity sets.old ≤ sets_capacity sets.new }
-        ensures memory { size self.now ≤ sets_capacity sets.old → IsOk result }
+        // With room for each state the call succeeds.
+        ensures memory { size self.now ≤ memory.old.room → IsOk result }
 
         // The visits are bounded.
         ensures visits { visits.new ≤ visits.old + (length text.now + 1) * max_reads self.now }
@@ -219,15 +209,18 @@ impl Compiled {
         if self.leads_to_none(text, visits) {
             return Ok(false);
         }
-        if let Some(cache) = cache {
-            return Ok(cache.is_match(text, visits));
+        if slot < memory.caches.len() {
+            if let Some(cache) = &mut memory.caches[slot] {
+                return Ok(cache.is_match(text, visits));
+            }
         }
         if let Some(rows) = &self.rows {
-            if let Some(is_match) = rows.is_match(text, self.may_take_memory(sets), visits) {
+            let may_make = memory.may_grow(self.always_grows, self.state_count());
+            if let Some(is_match) = rows.is_match(text, may_make, visits) {
                 return Ok(is_match);
             }
         }
-        self.simulation.is_match(text, sets, visits)
+        self.simulation.is_match(text, &mut memory.sets, visits)
     }
 
     /// Returns whether some text that begins with `text` and then `byte` leads to some end.
@@ -238,19 +231,19 @@ impl Compiled {
         &self,
         text: &[u8],
         byte: u8,
-        sets: &mut StateSets,
-        cache: &mut Option<Cache>,
+        slot: usize,
+        memory: &mut Memory,
         visits: &mut Visits,
     ) -> Result<bool, AllocError>
-        // A given cache is for this automaton, and stays so. The result says whether some text that begins so leads to some end.
-        requires { IfSome cache.old (λ c. c ≡ self.now) }
-        ensures cache { cache.new ≡ cache.old }
+        // The slot is this automaton's, and the memory fits all that it fitted. The result says whether some text that begins so
+        // leads to some end.
+        requires { Fits memory.old slot self.now }
+        ensures kept { FitsAsBefore memory.old memory.new }
         ensures some { IfOk result
             (λ yes. IsTrue yes ↔ MatchesAfter self.now (text.now ++ byte ∷ [])) }
 
-        // The capacity of the sets of states is never lower than before. With room for each state the call succeeds.
-        ensures kept { sets_capacity sets.old ≤ sets_capacity sets.new }
-        ensures memory { size self.now ≤ sets_capacity sets.old → IsOk result }
+        // With room for each state the call succeeds.
+        ensures memory { size self.now ≤ memory.old.room → IsOk result }
 
         // The visits are bounded.
         ensures visits { visits.new ≤ visits.old + (length text.now + 2) * max_reads self.now }
@@ -259,16 +252,19 @@ impl Compiled {
         if !self.simulation.has_starts() {
             return Ok(false);
         }
-        if let Some(cache) = cache {
-            return Ok(cache.can_match_after(text, byte, visits));
+        if slot < memory.caches.len() {
+            if let Some(cache) = &mut memory.caches[slot] {
+                return Ok(cache.can_match_after(text, byte, visits));
+            }
         }
         if let Some(rows) = &self.rows {
-            let may_make = self.may_take_memory(sets);
+            let may_make = memory.may_grow(self.always_grows, self.state_count());
             if let Some(can_match) = rows.can_match_after(text, byte, may_make, visits) {
                 return Ok(can_match);
             }
         }
-        self.simulation.can_match_after(text, byte, sets, visits)
+        self.simulation
+            .can_match_after(text, byte, &mut memory.sets, visits)
     }
 }
 

@@ -5,7 +5,7 @@ ghost use Rattle.git_ignore.specs.StackValue.{at_top};
 
 use crate::rules::Rules;
 use crate::stack::IgnoreStack;
-use crate::stored::Memory;
+use crate::stored::RowMemory;
 use engine::DEFAULT_DFA_SIZE_LIMIT;
 use std::alloc::{AllocError, Global};
 use std::marker::Model;
@@ -97,8 +97,8 @@ impl RulesBuilder {
         ensures file { IfOk result (λ r. r.file ≡ file.now) }
         ensures ignore_case { IfOk result (λ r. r.ignore_case ≡ self.ignore_case) }
     {
-        let memory = Memory::at_once(self.dfa_size_limit);
-        Rules::read(alloc, file, self.ignore_case, memory)
+        let rows = RowMemory::at_once(self.dfa_size_limit);
+        Rules::read(alloc, file, self.ignore_case, rows)
     }
 
     /// Returns a walk in its top folder, as [`IgnoreStack::new`] does. Its ignore files are read with these options.

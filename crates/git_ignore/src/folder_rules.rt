@@ -10,7 +10,7 @@ use crate::decision::DecidingRule;
 use crate::path_rule::PathRule;
 use crate::rules::Rules;
 use crate::scratch::IgnoreScratch;
-use crate::stored::Memory;
+use crate::stored::RowMemory;
 use crate::two_rules::DecidesAlone;
 use std::alloc::{AllocError, Global};
 
@@ -38,7 +38,7 @@ impl FolderRules {
         ensures fits { IfOk result (λ r. FitsRules scratch.new r.rules) }
         ensures others { FitsAsBefore scratch.old scratch.new }
     {
-        let rules = Rules::read(alloc, file, ignore_case, Memory::by_need(dfa_size_limit))?;
+        let rules = Rules::read(alloc, file, ignore_case, RowMemory::by_need(dfa_size_limit))?;
         let folder = folder.to_vec(alloc)?;
         scratch.reserve(&rules)?;
         Ok(FolderRules { folder, rules })
@@ -59,10 +59,13 @@ impl FolderRules {
         ensures scratch { scratch.new ≡ scratch.old }
     {
         match path.strip_prefix(self.folder.as_slice()) {
-            Some(below) => self
-                .rules
-                .stored
-                .path_rule(index, below, is_folder, scratch, &mut None),
+            Some(below) => self.rules.stored.path_rule(
+                index,
+                below,
+                is_folder,
+                &mut scratch.memory,
+                &mut scratch.found,
+            ),
             None => PathRule::none(),
         }
     }

@@ -11,7 +11,7 @@ use crate::decision::{DecideBy, DecidingRule, Decision, decision_of};
 use crate::path_rule::PathRule;
 use crate::reading::FileRules;
 use crate::scratch::IgnoreScratch;
-use crate::stored::{Memory, StoredRules};
+use crate::stored::{RowMemory, StoredRules};
 use crate::two_rules::{DecidesAlone, deciding};
 use engine::DEFAULT_DFA_SIZE_LIMIT;
 use std::alloc::{AllocError, Global};
@@ -59,7 +59,12 @@ impl Rules {
         ensures file { IfOk result (λ r. r.file ≡ file.now) }
         ensures ignore_case { IfOk result (λ r. r.ignore_case ≡ false) }
     {
-        Rules::read(alloc, file, false, Memory::at_once(DEFAULT_DFA_SIZE_LIMIT))
+        Rules::read(
+            alloc,
+            file,
+            false,
+            RowMemory::at_once(DEFAULT_DFA_SIZE_LIMIT),
+        )
     }
 
     /// Reads an ignore file, whose rules ignore case or not.
@@ -67,14 +72,14 @@ impl Rules {
         alloc: Global,
         file: &[u8],
         ignore_case: bool,
-        memory: Memory,
+        rows: RowMemory,
     ) -> Result<Rules, AllocError>
         ensures file { IfOk result (λ r. r.file ≡ file.now) }
         ensures ignore_case { IfOk result (λ r. r.ignore_case ≡ ignore_case) }
     {
         let read = FileRules::read(alloc, file)?;
         let entries = read.entries;
-        let stored = StoredRules::new(alloc, &read.patterns, entries, file, ignore_case, memory)?;
+        let stored = StoredRules::new(alloc, &read.patterns, entries, file, ignore_case, rows)?;
         Ok(Rules {
             stored: Arc::new(alloc, stored)?,
             unread: read.unread,
@@ -226,7 +231,6 @@ impl DecidesAlone for Rules {
     ghost alone = { rules_rule };
 
     fn path_rule(&self, path: &[u8], is_folder: bool, scratch: &mut IgnoreScratch) -> PathRule {
-        self.stored
-            .path_rule(0, path, is_folder, scratch, &mut None)
+        self.stored.path_rule(0, path, is_folder, &mut scratch.memory, &mut scratch.found)
     }
 }

@@ -5,7 +5,7 @@ ghost use Rattle.git_ignore.specs.RulesValue.{FitsAsBefore, FitsRules};
 
 use crate::rules::Rules;
 use bit_sets::IndexSet;
-use byte_nfa::StateSets;
+use engine::Memory;
 use std::alloc::{AllocError, Global};
 use std::marker::Model;
 
@@ -21,15 +21,14 @@ pub struct IgnoreScratch {
     states: usize,
     rules: usize,
     /// The states that the automaton is in, where it is stepped.
-    pub(crate) sets: StateSets,
+    pub(crate) memory: Memory,
     /// The indexes of the rules whose patterns match, and the two that tell of the folders above a path.
     pub(crate) found: IndexSet,
 }
 
 impl Model for IgnoreScratch {
-    ghost use Rattle.std.specs.Prelude.{◌≤◌, ◌+◌};
+    ghost use Rattle.std.specs.Prelude.{◌≡◌, ◌≤◌, ◌+◌, []};
     ghost use Rattle.bit_sets.specs.Indexes.{index_capacity};
-    ghost use Rattle.byte_nfa.specs.Sets.{sets_capacity};
     ghost use Rattle.git_ignore.specs.RulesValue.{ScratchValue};
 
     ghost Value = { ScratchValue };
@@ -39,7 +38,8 @@ impl Model for IgnoreScratch {
       rules = s.rules;
     } };
 
-    ghost invariant = { λ s. (s.states ≤ sets_capacity s.sets) × (s.rules + 2 ≤ index_capacity s.found) };
+    ghost invariant = { λ s. (s.states ≤ s.memory.room)
+        × ((s.rules + 2 ≤ index_capacity s.found) × (s.memory.caches ≡ [])) };
 }
 
 impl IgnoreScratch {
@@ -48,7 +48,7 @@ impl IgnoreScratch {
         IgnoreScratch {
             states: 0,
             rules: 0,
-            sets: StateSets::new(alloc),
+            memory: Memory::new(alloc),
             found: IndexSet::empty(alloc),
         }
     }
@@ -109,7 +109,7 @@ impl IgnoreScratch {
     {
         let states = self.states.max(rules.stored.state_count());
         let count = self.rules.max(rules.stored.rule_count());
-        self.sets.reserve(states)?;
+        self.memory.reserve(states)?;
         if count > self.rules {
             let Some(indexes) = count.checked_add(2) else {
                 return Err(AllocError);

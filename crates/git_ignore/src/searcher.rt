@@ -6,9 +6,9 @@ ghost use Rattle.git_ignore.specs.RulesValue.{rules_rule};
 
 use crate::decision::{DecidingRule, Decision, decision_of};
 use crate::rules::Rules;
-use crate::scratch::IgnoreScratch;
 use crate::stored::StoredRules;
-use lazy_dfa::Cache;
+use bit_sets::IndexSet;
+use engine::Memory;
 use std::alloc::{AllocError, Global};
 use std::marker::Model;
 use std::sync::Arc;
@@ -33,13 +33,14 @@ use std::sync::Arc;
 #[derive(Drop)]
 pub struct RulesSearcher {
     stored: Arc<StoredRules>,
-    scratch: IgnoreScratch,
-    /// The rows, if the automaton has any.
-    cache: Option<Cache>,
+    memory: Memory,
+    /// The indexes that the automaton finds.
+    found: IndexSet,
 }
 
 impl Model for RulesSearcher {
     ghost use Rattle.std.specs.Arc.{arc_value};
+    ghost use Rattle.bit_sets.specs.Indexes.{index_capacity};
     ghost use Rattle.git_ignore.specs.RulesValue.{RulesValue};
     ghost use Rattle.git_ignore.specs.inner.Entries.{IsSearcherOf, rules_value};
 
@@ -47,34 +48,31 @@ impl Model for RulesSearcher {
 
     ghost view = { λ s. rules_value (arc_value s.stored) };
 
-    ghost invariant = { λ s. IsSearcherOf (arc_value s.stored) s.scratch s.cache };
+    ghost invariant = { λ s. IsSearcherOf (arc_value s.stored) s.memory (index_capacity s.found) };
 }
 
 impl RulesSearcher {
-    /// Returns a searcher of the rules, which shares them. It takes as much memory as an [`IgnoreScratch`], and for rows up to a
-    /// quarter of the limit that [`RulesBuilder::dfa_size_limit`](crate::RulesBuilder::dfa_size_limit) sets.
+    /// Returns a searcher of the rules, which shares them. It takes as much memory as an
+    /// [`IgnoreScratch`](crate::IgnoreScratch), and for rows up to a quarter of the limit that
+    /// [`RulesBuilder::dfa_size_limit`](crate::RulesBuilder::dfa_size_limit) sets.
     ///
     /// Fails only if memory runs out or 2^63 searchers share the rules.
     pub fn new(alloc: Global, rules: &Rules) -> Result<RulesSearcher, AllocError>
         ensures { IfOk result (λ s. s ≡ rules.now) }
     {
         let stored = Arc::try_clone(&rules.stored)?;
-        let mut scratch = IgnoreScratch::empty(alloc);
-        scratch.reserve(rules)?;
-        let cache = stored.new_cache(alloc)?;
+        let memory = stored.new_memory(alloc)?;
+        let found = stored.new_found(alloc)?;
         Ok(RulesSearcher {
             stored,
-            scratch,
-            cache,
+            memory,
+            found,
         })
     }
 
     /// Returns how many bytes of memory its rows take.
     pub fn bytes(&self) -> usize {
-        match &self.cache {
-            Some(cache) => cache.bytes(),
-            None => 0,
-        }
+        self.memory.bytes()
     }
 
     /// Returns the decision of the file about a path below its folder, as [`Rules::decide`] does.
@@ -91,7 +89,7 @@ impl RulesSearcher {
         ensures kept { self.new ≡ self.old }
     {
         self.stored
-            .path_rule(0, path, is_folder, &mut self.scratch, &mut self.cache)
+            .path_rule(0, path, is_folder, &mut self.memory, &mut self.found)
             .rule
     }
 }

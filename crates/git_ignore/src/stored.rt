@@ -1,9 +1,10 @@
 //! The part of rules that their searchers share.
 
-ghost use Rattle.std.specs.Prelude.{◌≡◌, IfOk, IfSome};
+ghost use Rattle.std.specs.Prelude.{◌≡◌, ◌+◌, ◌≤◌, IfOk};
 ghost use Rattle.std.specs.Option.{option_copied};
 ghost use Rattle.git_ignore.specs.Rules.{deciding_rule, line_text_at, rules_of};
-ghost use Rattle.git_ignore.specs.RulesValue.{FitsRules};
+ghost use Rattle.bit_sets.specs.Indexes.{index_capacity};
+ghost use Rattle.engine.specs.Memory.{Fits, FitsAsBefore};
 ghost use Rattle.git_ignore.specs.inner.Entries.{ArePartsOf, rules_value};
 ghost use Rattle.git_ignore.specs.inner.PathRules.{IsPathRule};
 
@@ -11,35 +12,33 @@ use crate::decision::DecidingRule;
 use crate::entry::{RuleEntry, last_entry_for, told_of};
 use crate::path_rule::PathRule;
 use crate::reading::{after_mark, line_at};
-use crate::scratch::IgnoreScratch;
-use bit_sets::Visits;
-use engine::Compiled;
+use bit_sets::{IndexSet, Visits};
+use engine::{Compiled, Memory};
 use ignore_pattern::{IgnorePattern, automaton_of, line_text};
-use lazy_dfa::Cache;
 use std::alloc::{AllocError, Global};
 use std::marker::Model;
 
 /// How much memory rows may take, and when.
 #[derive(Clone, Copy)]
-pub struct Memory {
+pub struct RowMemory {
     /// The most bytes that are kept between calls.
     limit: usize,
     /// Whether calls that decide take it as they need it, and not those before them at once.
     by_need: bool,
 }
 
-impl Memory {
+impl RowMemory {
     /// Returns that memory is taken before calls that decide.
-    pub fn at_once(limit: usize) -> Memory {
-        Memory {
+    pub fn at_once(limit: usize) -> RowMemory {
+        RowMemory {
             limit,
             by_need: false,
         }
     }
 
     /// Returns that calls that decide take memory.
-    pub fn by_need(limit: usize) -> Memory {
-        Memory {
+    pub fn by_need(limit: usize) -> RowMemory {
+        RowMemory {
             limit,
             by_need: true,
         }
@@ -82,7 +81,7 @@ impl StoredRules {
         entries: Vec<RuleEntry>,
         file: &[u8],
         ignore_case: bool,
-        memory: Memory,
+        rows: RowMemory,
     ) -> Result<StoredRules, AllocError>
         requires { ArePartsOf (rules_of file.now) patterns.now entries.items }
         ensures file { IfOk result (λ r. r.file ≡ file.now) }
@@ -90,8 +89,8 @@ impl StoredRules {
     {
         let automaton = automaton_of(alloc, patterns, ignore_case)?;
         let states = automaton.state_count();
-        let automaton = Compiled::new(alloc, memory.limit, automaton, states)?;
-        let automaton = automaton.growing(memory.by_need);
+        let automaton = Compiled::new(alloc, rows.limit, automaton, states)?;
+        let automaton = automaton.growing(rows.by_need);
         let file = file.to_vec(alloc)?;
         Ok(StoredRules {
             automaton,
@@ -134,11 +133,22 @@ impl StoredRules {
         self.entries.len()
     }
 
-    /// Returns a cache for the automaton, or `None` if it has no rows.
-    pub fn new_cache(&self, alloc: Global) -> Result<Option<Cache>, AllocError>
-        ensures { IfOk result (λ made. IfSome made (λ cache. cache ≡ self.now.automaton)) }
+    /// Returns all memory that runs of the automaton need: room for its states, and in the first slot a cache if it may have rows.
+    pub fn new_memory(&self, alloc: Global) -> Result<Memory, AllocError>
+        ensures fits { IfOk result (λ memory. Fits memory 0 self.now.automaton) }
+        ensures room { IfOk result (λ memory. (rules_value self.now).states ≤ memory.room) }
     {
-        self.automaton.new_cache(alloc)
+        let mut memory = Memory::new(alloc);
+        memory.push_slot(self.automaton.new_cache(alloc)?)?;
+        memory.reserve(self.state_count())?;
+        Ok(memory)
+    }
+
+    /// Returns a set with room for the indexes that the automaton finds.
+    pub fn new_found(&self, alloc: Global) -> Result<IndexSet, AllocError>
+        ensures { IfOk result (λ found. self.now.rules + 2 ≤ index_capacity found) }
+    {
+        IndexSet::new(alloc, self.entries.len().checked_add(2).ok_or(AllocError)?)
     }
 
     /// Keeps a cache for calls without one, as far as there is memory for it.
@@ -147,38 +157,34 @@ impl StoredRules {
     }
 
     /// Returns the rule that decides about a path alone, and what is known of the folders above it, if these are the rules of the file
-    /// with this index. It reads the rows of the cache, or without one the rows that are kept between calls.
+    /// with this index. It runs in the first slot of the memory.
     pub fn path_rule(
         &self,
         file: usize,
         path: &[u8],
         is_folder: bool,
-        scratch: &mut IgnoreScratch,
-        cache: &mut Option<Cache>,
+        memory: &mut Memory,
+        found: &mut IndexSet,
     ) -> PathRule
-        requires fits { FitsRules scratch.old (rules_value self.now) }
-        requires cache { IfSome cache.old (λ c. c ≡ self.now.automaton) }
+        // The memory and the set have room, and the first slot is the automaton's.
+        requires fits { Fits memory.old 0 self.now.automaton }
+        requires states { (rules_value self.now).states ≤ memory.old.room }
+        requires indexes { self.now.rules + 2 ≤ index_capacity found.old }
         ensures rule { IsPathRule (deciding_rule self.now.ignore_case self.now.file file) path.now
             is_folder result }
-        ensures scratch { scratch.new ≡ scratch.old }
-        ensures cache { cache.new ≡ cache.old }
+        ensures kept { FitsAsBefore memory.old memory.new }
+        ensures room { index_capacity found.new ≡ index_capacity found.old }
     {
-        scratch.found.clear();
+        found.clear();
         self.automaton
-            .find(
-                path,
-                &mut scratch.sets,
-                cache,
-                &mut scratch.found,
-                &mut Visits::new(),
-            )
+            .find(path, 0, memory, found, &mut Visits::new())
             .unwrap();
-        let last = last_entry_for(&self.entries, &scratch.found, is_folder);
+        let last = last_entry_for(&self.entries, found, is_folder);
         let count = self.entries.len();
         PathRule {
             rule: told_of(file, last),
-            may_be_ignored: scratch.found.has(count),
-            may_be_kept: scratch.found.has(count + 1),
+            may_be_ignored: found.has(count),
+            may_be_kept: found.has(count + 1),
         }
     }
 }

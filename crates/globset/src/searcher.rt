@@ -9,8 +9,10 @@ ghost use Rattle.set_matcher.specs.Indexes.{ContainsAllBelow};
 ghost use Rattle.globset.specs.SetValue.{set_globs};
 
 use crate::set::GlobSet;
-use globset_glob::{Candidate, Error, Scratch, Visits};
-use set_matcher::{Caches, SetMatcher};
+use bit_sets::IndexSet;
+use engine::Memory;
+use globset_glob::{Candidate, Error, Visits};
+use set_matcher::SetMatcher;
 use std::alloc::Global;
 use std::marker::Model;
 use std::sync::Arc;
@@ -40,13 +42,14 @@ pub struct Searcher {
     set: GlobSet,
     /// The globs, compiled. It is `None` if there are no globs.
     matcher: Option<Arc<SetMatcher>>,
-    scratch: Scratch,
-    caches: Caches,
+    memory: Memory,
+    marks: IndexSet,
     found: Vec<usize>,
 }
 
 impl Model for Searcher {
     ghost use Rattle.std.specs.Prelude.{vec_capacity};
+    ghost use Rattle.bit_sets.specs.Indexes.{index_capacity};
     ghost use Rattle.globset.specs.SearcherValue.{SearcherValue};
     ghost use Rattle.globset.specs.inner.SetOfMatcher.{IsSearcherOf};
 
@@ -57,7 +60,7 @@ impl Model for Searcher {
       found = s.found.items;
     } };
 
-    ghost invariant = { λ s. IsSearcherOf s.set s.matcher s.scratch s.caches (vec_capacity s.found) };
+    ghost invariant = { λ s. IsSearcherOf s.set s.matcher s.memory (index_capacity s.marks) (vec_capacity s.found) };
 }
 
 impl Searcher {
@@ -65,8 +68,9 @@ impl Searcher {
     ghost use Rattle.globset.specs.Lending.{LendsFound};
 
     /// Returns a searcher of the set, which shares the keys and automata of the set. It allocates eight bytes for each glob, and
-    /// as much as a [`Scratch`] for the set, but the set gets no rows for it. It also allocates a cache of rows for each automaton
-    /// of the set, of the size that [`GlobSetBuilder::dfa_size_limit`](crate::GlobSetBuilder::dfa_size_limit) tells.
+    /// as much as a [`Scratch`](crate::Scratch) for the set, but the set gets no rows for it. It also allocates a cache of rows for
+    /// each automaton of the set, of the size that
+    /// [`GlobSetBuilder::dfa_size_limit`](crate::GlobSetBuilder::dfa_size_limit) tells.
     ///
     /// Fails only if memory runs out or 2^63 sets share these.
     pub fn new(alloc: Global, set: &GlobSet) -> Result<Searcher, Error>
@@ -75,18 +79,17 @@ impl Searcher {
         ensures err { IsOkUnless result out_of_memory }
     {
         let set = set.clone()?;
-        let mut scratch = Scratch::empty(alloc);
-        scratch.reserve(&set)?;
-        let (matcher, caches) = match &set.matcher {
-            Some(matcher) => (Some(Arc::try_clone(matcher)?), matcher.new_caches(alloc)?),
-            None => (None, Caches::none()),
+        let (matcher, memory) = match &set.matcher {
+            Some(matcher) => (Some(Arc::try_clone(matcher)?), matcher.new_memory(alloc)?),
+            None => (None, Memory::new(alloc)),
         };
+        let marks = IndexSet::new(alloc, set.len())?;
         let found = Vec::with_capacity(alloc, set.len())?;
         Ok(Searcher {
             set,
             matcher,
-            scratch,
-            caches,
+            memory,
+            marks,
             found,
         })
     }
@@ -107,7 +110,7 @@ impl Searcher {
             .found
             .capacity()
             .saturating_mul(mem::size_of::<usize>());
-        indexes.saturating_add(self.caches.bytes())
+        indexes.saturating_add(self.memory.bytes())
     }
 
     /// Returns whether some glob that is not excluded matches the candidate's path, as [`GlobSet::is_match_candidate`] does.
@@ -131,9 +134,7 @@ impl Searcher {
         let Some(matcher) = &self.matcher else {
             return false;
         };
-        matcher
-            .is_match(path, &mut self.scratch.sets, &mut self.caches, visits)
-            .unwrap()
+        matcher.is_match(path, &mut self.memory, visits).unwrap()
     }
 
     /// Returns whether every glob matches the candidate's path and none is excluded, as [`GlobSet::matches_all_candidate`] does.
@@ -162,13 +163,7 @@ impl Searcher {
             return true;
         };
         matcher
-            .matches_all(
-                path,
-                &mut self.scratch.sets,
-                &mut self.scratch.marks,
-                &mut self.caches,
-                visits,
-            )
+            .matches_all(path, &mut self.memory, &mut self.marks, visits)
             .unwrap()
     }
 
@@ -198,9 +193,8 @@ impl Searcher {
         matcher
             .find(
                 path,
-                &mut self.scratch.sets,
-                &mut self.scratch.marks,
-                &mut self.caches,
+                &mut self.memory,
+                &mut self.marks,
                 &mut self.found,
                 visits,
             )
@@ -270,12 +264,7 @@ impl Searcher {
             return false;
         };
         matcher
-            .can_match_below(
-                folder.path(),
-                &mut self.scratch.sets,
-                &mut self.caches,
-                visits,
-            )
+            .can_match_below(folder.path(), &mut self.memory, visits)
             .unwrap()
     }
 }

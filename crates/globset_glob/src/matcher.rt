@@ -1,24 +1,22 @@
 //! Matchers of a glob.
 
-ghost use Rattle.std.specs.Prelude.{◌≡◌, ◌+◌, ◌≤◌, ◌↔◌, IfOk, IsOk, IsOkUnless, IsTrue, IfSome};
+ghost use Rattle.std.specs.Prelude.{◌≡◌, ◌+◌, ◌≤◌, ◌↔◌, IfOk, IsOk, IsOkUnless, IsTrue, []};
 ghost use Rattle.bit_sets.specs.Texts.{AllBytes};
-ghost use Rattle.byte_nfa.specs.Sets.{sets_capacity};
+ghost use Rattle.engine.specs.Memory.{FitsAsBefore};
 ghost use Rattle.globset_glob.specs.ScratchValue.{FitsMatcher};
 ghost use Rattle.glob_text.specs.Errors.{out_of_memory};
 ghost use Rattle.glob_text.specs.Cost.{cost, max_visits, max_visits_below};
 ghost use Rattle.globset_glob.specs.GlobBelow.{GlobMatchesBelow};
 ghost use Rattle.glob_text.specs.GlobMatches.{GlobValue, glob_matches};
-ghost use Rattle.globset_glob.specs.inner.GlobNfa.{IsAutomatonOf, IsCacheOf, IsStrategyOfMatcher, form_states};
+ghost use Rattle.globset_glob.specs.inner.GlobNfa.{FitsStrategy, IsAutomatonOf, IsStrategyOfMatcher, form_states};
 
 use crate::glob::{Glob, flat_tokens_of, options_of};
 use crate::scratch::{NeedsScratch, Scratch};
 use bit_sets::Visits;
-use byte_nfa::StateSets;
-use engine::{Compiled, DEFAULT_DFA_SIZE_LIMIT};
+use engine::{Compiled, DEFAULT_DFA_SIZE_LIMIT, Memory};
 use glob_path::{AsPath, Candidate, Key};
 use glob_strategy::{MatchStrategy, add_tokens, new_builder, strategy_of};
 use glob_text::Error;
-use lazy_dfa::Cache;
 use std::alloc::{AllocError, Global};
 use std::fmt;
 use std::marker::Model;
@@ -125,25 +123,26 @@ impl GlobMatcher {
         ensures visits { visits.new ≤ visits.old + max_visits self.now path.now }
         ensures counted { visits.old ≤ visits.new }
     {
-        let mut sets = StateSets::new(self.glob.allocator());
-        Ok(self.is_match_in(path, &mut sets, visits)?)
+        let mut memory = Memory::new(self.glob.allocator());
+        Ok(self.is_match_in(path, &mut memory, visits)?)
     }
 
-    /// The same, in sets of the caller. It allocates nothing if the sets have room for as many states as the automaton of such a
-    /// glob may have.
+    /// The same, in a memory of the caller without slots. It allocates nothing if the memory has room for as many states as the
+    /// automaton of such a glob may have.
     fn is_match_in(
         &self,
         path: &Candidate<'_>,
-        sets: &mut StateSets,
+        memory: &mut Memory,
         visits: &mut Visits,
     ) -> Result<bool, AllocError>
+        requires { memory.old.caches ≡ [] }
         ensures ok { IfOk result (λ yes. yes ≡ glob_matches self.now path.now) }
-        ensures room { cost self.now ≤ sets_capacity sets.old → IsOk result }
-        ensures kept { sets_capacity sets.old ≤ sets_capacity sets.new }
+        ensures kept { FitsAsBefore memory.old memory.new }
+        ensures room { cost self.now ≤ memory.old.room → IsOk result }
         ensures visits { visits.new ≤ visits.old + max_visits self.now path.now }
         ensures counted { visits.old ≤ visits.new }
     {
-        self.strategy.is_match(path, sets, &mut None, visits)
+        self.strategy.is_match(path, memory, visits)
     }
 
     /// Does what [`is_match_visits`](GlobMatcher::is_match_visits) does, with a scratch: it does not allocate, and cannot fail.
@@ -172,7 +171,7 @@ impl GlobMatcher {
         ensures visits { visits.new ≤ visits.old + max_visits self.now path.now }
         ensures counted { visits.old ≤ visits.new }
     {
-        self.is_match_in(path, &mut scratch.sets, visits).unwrap()
+        self.is_match_in(path, &mut scratch.memory, visits).unwrap()
     }
 
     /// Returns whether the glob matches some path below a directory.
@@ -223,9 +222,8 @@ impl GlobMatcher {
         ensures visits { visits.new ≤ visits.old + max_visits_below self.now folder.now }
         ensures counted { visits.old ≤ visits.new }
     {
-        let mut sets = StateSets::new(self.glob.allocator());
-        let strategy = &self.strategy;
-        Ok(strategy.can_match_below(folder, &mut sets, &mut None, visits)?)
+        let mut memory = Memory::new(self.glob.allocator());
+        Ok(self.strategy.can_match_below(folder, &mut memory, visits)?)
     }
 
     /// Returns a matcher for an equal glob. It copies the glob, and shares its automaton. Fails also if 2^63 matchers share the
@@ -333,47 +331,38 @@ impl Strategy {
         }
     }
 
-    /// Returns sets with room for the states of an automaton.
-    pub fn new_sets(&self, alloc: Global) -> Result<StateSets, AllocError>
-        ensures { IfOk result (λ sets. form_states self.now ≤ sets_capacity sets) }
+    /// Returns all memory that matching needs: for an automaton, room for its states, and in the first slot a cache with no rows if
+    /// it may have rows.
+    pub fn new_memory(&self, alloc: Global) -> Result<Memory, AllocError>
+        ensures fits { IfOk result (λ memory. FitsStrategy memory self.now) }
+        ensures room { IfOk result (λ memory. form_states self.now ≤ memory.room) }
     {
-        let mut sets = StateSets::new(alloc);
+        let mut memory = Memory::new(alloc);
         if let Strategy::Automaton(automaton) = self {
-            sets.reserve(automaton.state_count())?;
+            memory.push_slot(automaton.new_cache(alloc)?)?;
+            memory.reserve(automaton.state_count())?;
         }
-        Ok(sets)
+        Ok(memory)
     }
 
-    /// Returns a cache with no rows for an automaton, as [`Compiled::new_cache`] does, or `None` if a key decides. Returns an
-    /// error if memory runs out.
-    pub fn new_cache(&self, alloc: Global) -> Result<Option<Cache>, AllocError>
-        ensures { IfOk result (λ made. IfSome made (IsCacheOf self.now)) }
-    {
-        match self {
-            Strategy::Key(_) => Ok(None),
-            Strategy::Automaton(automaton) => automaton.new_cache(alloc),
-        }
-    }
-
-    /// Returns whether the glob matches a path. An automaton runs by the rows of the cache, or, without one, as
-    /// [`Compiled::is_match`] does. It allocates nothing if a key decides or the sets have room.
+    /// Returns whether the glob matches a path. An automaton runs in the first slot of the memory. It
+    /// allocates nothing if a key decides or the memory has room.
     pub fn is_match(
         &self,
         path: &Candidate<'_>,
-        sets: &mut StateSets,
-        cache: &mut Option<Cache>,
+        memory: &mut Memory,
         visits: &mut Visits,
     ) -> Result<bool, AllocError>
-        // A cache is of the strategy's automaton, before and after the call. The answer is right for each glob of the strategy.
-        requires { IfSome cache.old (IsCacheOf self.now) }
-        ensures cache { cache.new ≡ cache.old }
+        // The first slot is the automaton's, and the memory fits all that it fitted. The answer is right for each glob of the
+        // strategy.
+        requires { FitsStrategy memory.old self.now }
+        ensures kept { FitsAsBefore memory.old memory.new }
         ensures some { IfOk result
             (λ yes. (g : GlobValue) → IsStrategyOfMatcher g self.now
             → yes ≡ glob_matches g path.now) }
 
-        // The sets lose no room. Memory runs out only if they have too little room for the automaton's states.
-        ensures room { form_states self.now ≤ sets_capacity sets.old → IsOk result }
-        ensures kept { sets_capacity sets.old ≤ sets_capacity sets.new }
+        // Memory runs out only if there is too little room for the automaton's states.
+        ensures room { form_states self.now ≤ memory.old.room → IsOk result }
 
         // The number of visits never decreases, and its increase is bounded.
         ensures visits { (g : GlobValue) → IsStrategyOfMatcher g self.now
@@ -387,30 +376,29 @@ impl Strategy {
                 Ok(key.matches(path))
             }
             Strategy::Automaton(automaton) => {
-                automaton.is_match(bytes_of(path.path()), sets, cache, visits)
+                automaton.is_match(bytes_of(path.path()), 0, memory, visits)
             }
         }
     }
 
     /// Returns whether the glob matches some path below a directory. It runs as [`Strategy::is_match`] does. It allocates
-    /// nothing if a key decides or the sets have room.
+    /// nothing if a key decides or the memory has room.
     pub fn can_match_below(
         &self,
         folder: &Candidate<'_>,
-        sets: &mut StateSets,
-        cache: &mut Option<Cache>,
+        memory: &mut Memory,
         visits: &mut Visits,
     ) -> Result<bool, AllocError>
-        // A cache is of the strategy's automaton, before and after the call. The answer is right for each glob of the strategy.
-        requires { IfSome cache.old (IsCacheOf self.now) }
-        ensures cache { cache.new ≡ cache.old }
+        // The first slot is the automaton's, and the memory fits all that it fitted. The answer is right for each glob of the
+        // strategy.
+        requires { FitsStrategy memory.old self.now }
+        ensures kept { FitsAsBefore memory.old memory.new }
         ensures some { IfOk result
             (λ yes. (g : GlobValue) → IsStrategyOfMatcher g self.now
             → IsTrue yes ↔ GlobMatchesBelow g folder.now) }
 
-        // The sets lose no room. Memory runs out only if they have too little room for the automaton's states.
-        ensures room { form_states self.now ≤ sets_capacity sets.old → IsOk result }
-        ensures kept { sets_capacity sets.old ≤ sets_capacity sets.new }
+        // Memory runs out only if there is too little room for the automaton's states.
+        ensures room { form_states self.now ≤ memory.old.room → IsOk result }
 
         // The number of visits never decreases, and its increase is bounded.
         ensures visits { (g : GlobValue) → IsStrategyOfMatcher g self.now
@@ -423,7 +411,7 @@ impl Strategy {
                 Ok(key.can_match_below(folder.path()))
             }
             Strategy::Automaton(automaton) => {
-                automaton.can_match_after(bytes_of(folder.path()), b'/', sets, cache, visits)
+                automaton.can_match_after(bytes_of(folder.path()), b'/', 0, memory, visits)
             }
         }
     }
@@ -477,25 +465,22 @@ fn automaton_of(glob: &Glob, dfa_size_limit: usize) -> Result<Compiled, AllocErr
 #[derive(Drop)]
 pub struct MatcherSearcher {
     matcher: GlobMatcher,
-    /// The matcher's strategy, copied: contracts see a matcher as its glob, and the cache is of an automaton.
+    /// The matcher's strategy, copied: contracts see a matcher as its glob, and the memory is for an automaton.
     strategy: Strategy,
-    sets: StateSets,
-    /// `None` if a key decides, or the automaton has no rows.
-    cache: Option<Cache>,
+    memory: Memory,
 }
 
 impl Model for MatcherSearcher {
-    ghost use Rattle.std.specs.Prelude.{◌≤◌, IfSome};
-    ghost use Rattle.byte_nfa.specs.Sets.{sets_capacity};
+    ghost use Rattle.std.specs.Prelude.{◌≤◌};
     ghost use Rattle.glob_text.specs.GlobMatches.{GlobValue};
-    ghost use Rattle.globset_glob.specs.inner.GlobNfa.{IsCacheOf, IsStrategyOfMatcher, form_states};
+    ghost use Rattle.globset_glob.specs.inner.GlobNfa.{FitsStrategy, IsStrategyOfMatcher, form_states};
 
     ghost Value = { GlobValue };
 
     ghost view = { λ s. s.matcher };
 
     ghost invariant = { λ s. IsStrategyOfMatcher s.matcher s.strategy
-        × ((form_states s.strategy ≤ sets_capacity s.sets) × IfSome s.cache (IsCacheOf s.strategy)) };
+        × ((form_states s.strategy ≤ s.memory.room) × FitsStrategy s.memory s.strategy) };
 }
 
 impl MatcherSearcher {
@@ -511,13 +496,11 @@ impl MatcherSearcher {
     {
         let matcher = matcher.clone()?;
         let strategy = matcher.copy_strategy()?;
-        let sets = strategy.new_sets(alloc)?;
-        let cache = strategy.new_cache(alloc)?;
+        let memory = strategy.new_memory(alloc)?;
         Ok(MatcherSearcher {
             matcher,
             strategy,
-            sets,
-            cache,
+            memory,
         })
     }
 
@@ -533,10 +516,7 @@ impl MatcherSearcher {
     ///
     /// A searcher takes its memory when it is made, and no more later.
     pub fn bytes(&self) -> usize {
-        match &self.cache {
-            Some(cache) => cache.bytes(),
-            None => 0,
-        }
+        self.memory.bytes()
     }
 
     /// Returns whether the glob matches a candidate's path, as [`GlobMatcher::is_match_candidate`] does.
@@ -557,7 +537,7 @@ impl MatcherSearcher {
         ensures counted { visits.old ≤ visits.new }
     {
         self.strategy
-            .is_match(path, &mut self.sets, &mut self.cache, visits)
+            .is_match(path, &mut self.memory, visits)
             .unwrap()
     }
 
@@ -588,7 +568,7 @@ impl MatcherSearcher {
         ensures counted { visits.old ≤ visits.new }
     {
         self.strategy
-            .can_match_below(folder, &mut self.sets, &mut self.cache, visits)
+            .can_match_below(folder, &mut self.memory, visits)
             .unwrap()
     }
 }

@@ -5,7 +5,7 @@ ghost use Rattle.glob_text.specs.Errors.{out_of_memory};
 ghost use Rattle.globset_glob.specs.ScratchValue.{FitsAsBefore, HasCapacity, raised};
 
 use bit_sets::IndexSet;
-use byte_nfa::StateSets;
+use engine::Memory;
 use glob_text::Error;
 use std::alloc::{AllocError, Global};
 use std::fmt;
@@ -68,16 +68,15 @@ pub struct Scratch {
     indexes: usize,
     // The current states of an automaton while it is stepped. Public for the calls that match, in the crates above.
     #[doc(hidden)]
-    pub sets: StateSets,
+    pub memory: Memory,
     // The indexes that are found, which are marked here.
     #[doc(hidden)]
     pub marks: IndexSet,
 }
 
 impl Model for Scratch {
-    ghost use Rattle.std.specs.Prelude.{◌≤◌};
+    ghost use Rattle.std.specs.Prelude.{◌≡◌, ◌≤◌, []};
     ghost use Rattle.bit_sets.specs.Indexes.{index_capacity};
-    ghost use Rattle.byte_nfa.specs.Sets.{sets_capacity};
     ghost use Rattle.globset_glob.specs.ScratchValue.{ScratchValue};
 
     ghost Value = { ScratchValue };
@@ -87,7 +86,8 @@ impl Model for Scratch {
       indexes = s.indexes;
     } };
 
-    ghost invariant = { λ s. (s.states ≤ sets_capacity s.sets) × (s.indexes ≤ index_capacity s.marks) };
+    ghost invariant = { λ s. (s.states ≤ s.memory.room)
+        × ((s.indexes ≤ index_capacity s.marks) × (s.memory.caches ≡ [])) };
 }
 
 impl Scratch {
@@ -99,7 +99,7 @@ impl Scratch {
         Scratch {
             states: 0,
             indexes: 0,
-            sets: StateSets::new(alloc),
+            memory: Memory::new(alloc),
             marks: IndexSet::empty(alloc),
         }
     }
@@ -156,36 +156,15 @@ impl Scratch {
     {
         // What fitted before takes no memory, for a cache either.
         let lacks_room = !self.fits(set);
-        self.reserve(set)?;
-        if lacks_room {
-            set.keep_caches();
-        }
-        Ok(())
-    }
-
-    /// Like [`Scratch::fit`], for a searcher, which has caches of its own: the set or the matcher keeps no rows for this scratch.
-    #[doc(hidden)]
-    pub fn reserve<S: NeedsScratch>(&mut self, set: &S) -> Result<(), Error>
-        // Success raises each number to the need, if it is lower, and then the scratch fits.
-        ensures raised { OnOk result
-            (self.new ≡ raised self.old (S.states set.now) (S.indexes set.now)) }
-        ensures fits { OnOk result (HasCapacity self.new (S.states set.now) (S.indexes set.now)) }
-
-        // An error changes nothing. In both cases the scratch fits what it fitted before.
-        ensures kept { OnErr result (self.new ≡ self.old) }
-        ensures others { FitsAsBefore self.old self.new }
-
-        // The call fails only if memory runs out, and never if the scratch fits already.
-        ensures succeeds_if_fits { HasCapacity self.old (S.states set.now) (S.indexes set.now)
-            → IsOk result }
-        ensures err { IsOkUnless result out_of_memory }
-    {
         let states = self.states.max(set.states_needed().ok_or(AllocError)?);
         let indexes = self.indexes.max(set.indexes_needed());
-        self.sets.reserve(states)?;
+        self.memory.reserve(states)?;
         self.marks.reserve(indexes)?;
         self.states = states;
         self.indexes = indexes;
+        if lacks_room {
+            set.keep_caches();
+        }
         Ok(())
     }
 

@@ -3,7 +3,7 @@ pub mod Builders
 pub mod PathPart
 pub mod SetMatcher
 pub mod ExtensionSlots
-pub mod Caches
+pub mod Memory
 pub mod TokenGlobs
 pub mod Folders
 pub mod Parts

@@ -4,23 +4,22 @@ ghost use Rattle.std.specs.Prelude.{◌≡◌, ◌+◌, ◌*◌, ◌<◌, ◌≤
 ghost use Rattle.byte_nfa.specs.Runs.{size};
 ghost use Rattle.bit_sets.specs.Indexes.{index_capacity};
 ghost use Rattle.bit_sets.specs.Texts.{AllBytes};
-ghost use Rattle.byte_nfa.specs.Sets.{sets_capacity};
+ghost use Rattle.engine.specs.Memory.{FitsAsBefore};
 ghost use Rattle.glob_strategy.specs.IndexedTokens.{indexed};
 ghost use Rattle.glob_path.specs.PathParts.{component_extension};
 ghost use Rattle.glob_syntax.specs.FlatTokens.{IsNested};
 ghost use Rattle.glob_syntax.specs.Views.{flats, tokens_of};
-ghost use Rattle.set_matcher.specs.inner.Caches.{AreCachesOf};
+ghost use Rattle.set_matcher.specs.inner.Memory.{FitsAll};
 ghost use Rattle.set_matcher.specs.inner.Automata.{AreForLists, AreFound, AreIdle, IsFoundSet, TokenLists, max_states, nfa_at, no_automata, reads_for, slot_of, states_for, AreFoundBelow, folder_reads};
 ghost use Rattle.set_matcher.specs.inner.Builders.{AddsTo};
 ghost use Rattle.byte_nfa.specs.Live.{MatchesAfter};
 
 mod matchers;
 
-use crate::caches::Caches;
 use crate::path_part::{Part, matches_part, run};
 use bit_sets::{IndexSet, StateSet, Visits};
-use byte_nfa::{Builder, Nfa, StateSets};
-use engine::Compiled;
+use byte_nfa::{Builder, Nfa};
+use engine::{Compiled, Memory};
 use glob_path::PathParts;
 use glob_strategy::{add_tokens, new_builder};
 use glob_syntax::{Options, Token};
@@ -85,44 +84,42 @@ impl Automata {
         self.extensions.keep_caches();
     }
 
-    /// Returns caches with no rows for the automata that need any. Runs with them allocate nothing for rows.
-    pub fn new_caches(&self, alloc: Global) -> Result<Caches, AllocError>
-        ensures { IfOk result (λ caches. AreCachesOf self.now caches) }
+    /// Gives a memory without slots those of the automata: each that may have rows gets a cache for them. Runs in this memory
+    /// allocate nothing for rows.
+    pub fn push_slots(&self, alloc: Global, memory: &mut Memory) -> Result<(), AllocError>
+        requires { memory.old.caches ≡ [] }
+        ensures { OnOk result (FitsAll self.now memory.new) }
     {
-        Ok(Caches {
-            by_path: self.by_path.new_cache(alloc)?,
-            by_component: self.by_component.new_cache(alloc)?,
-            by_slot: self.extensions.new_caches(alloc)?,
-        })
+        memory.push_slot(self.by_path.new_cache(alloc)?)?;
+        memory.push_slot(self.by_component.new_cache(alloc)?)?;
+        self.extensions.push_slots(alloc, memory)
     }
 
     /// Returns whether an automaton has to be run, and if so, marks exactly the indexes of the globs that match the path. If not,
-    /// no glob matches, and the sets stay as they are.
+    /// no glob matches, and the marks stay as they are.
     ///
-    /// The sets get room for each index, and for each state of an automaton that is stepped.
+    /// The marks get room for each index, and the memory for each state of an automaton that is stepped.
     pub fn find(
         &self,
         path: &PathParts<'_>,
-        sets: &mut StateSets,
+        memory: &mut Memory,
         marks: &mut IndexSet,
-        caches: &mut Caches,
         visits: &mut Visits,
     ) -> Result<bool, AllocError>
-        // Each cache is of the automaton that it is used with. The path consists of bytes.
-        requires caches { AreCachesOf self.now caches.old }
+        // The slots are those of the automata. The path consists of bytes.
+        requires fits { FitsAll self.now memory.old }
         requires bytes { AllBytes path.now }
 
-        // Each cache is of the same automaton afterwards. If the answer is true, the marks are exactly the matching indexes. If
-        // it is false, there are no states to run, and no glob matches.
-        ensures caches { caches.new ≡ caches.old }
+        // The memory fits all that it fitted. If the answer is true, the marks are exactly the matching indexes. If it is false,
+        // there are no states to run, and no glob matches.
+        ensures kept { FitsAsBefore memory.old memory.new }
         ensures found { IfOk result (λ some. some ≡ true → IsFoundSet self.now path.now marks.new) }
         ensures idle { IfOk result (λ some. some ≡ false → AreIdle self.now path.now) }
 
-        // The sets and the marks lose no room. Memory runs out only if there are states to run and either has too little room.
-        ensures kept { sets_capacity sets.old ≤ sets_capacity sets.new }
+        // The marks lose no room. Memory runs out only if there are states to run, and too little room for them or in the marks.
         ensures marks { index_capacity marks.old ≤ index_capacity marks.new }
         ensures memory { states_for self.now path.now ≡ 0 → IsOk result }
-        ensures room { max_states self.now ≤ sets_capacity sets.old
+        ensures room { max_states self.now ≤ memory.old.room
             → self.now.extensions.index_count ≤ index_capacity marks.old → IsOk result }
 
         // The number of visits never decreases, and its increase is bounded.
@@ -136,83 +133,63 @@ impl Automata {
         }
         marks.clear();
         marks.reserve(self.index_count())?;
-        run(
-            Part::Path,
-            &self.by_path,
-            path,
-            sets,
-            &mut caches.by_path,
-            marks,
-            visits,
-        )?;
+        run(Part::Path, &self.by_path, path, 0, memory, marks, visits)?;
         run(
             Part::LastComponent,
             &self.by_component,
             path,
-            sets,
-            &mut caches.by_component,
+            1,
+            memory,
             marks,
             visits,
         )?;
-        let caches = &mut caches.by_slot;
-        self.extensions
-            .find(slot, path, sets, caches, marks, visits)?;
+        self.extensions.find(slot, path, memory, marks, visits)?;
         Ok(true)
     }
 
     /// Returns whether some glob matches the path.
     ///
-    /// The sets get room for each state of an automaton that is stepped.
+    /// The memory gets room for each state of an automaton that is stepped.
     pub fn is_match(
         &self,
         path: &PathParts<'_>,
-        sets: &mut StateSets,
-        caches: &mut Caches,
+        memory: &mut Memory,
         visits: &mut Visits,
     ) -> Result<bool, AllocError>
-        // Each cache is of the automaton that it is used with. The path consists of bytes.
-        requires caches { AreCachesOf self.now caches.old }
+        // The slots are those of the automata. The path consists of bytes.
+        requires fits { FitsAll self.now memory.old }
         requires bytes { AllBytes path.now }
 
-        // Each cache is of the same automaton afterwards. The answer tells whether some glob matches the path.
-        ensures caches { caches.new ≡ caches.old }
+        // The memory fits all that it fitted. The answer tells whether some glob matches the path.
+        ensures kept { FitsAsBefore memory.old memory.new }
         ensures some { IfOk result
             (λ yes. (t : TokenLists) → AreForLists self.now t
             → IsTrue yes ↔ ((k : ℕ) × AreFound self.now.extensions.slots t path.now k)) }
 
-        // The sets lose no room. Memory runs out only if there are states to run and the sets have too little room.
-        ensures kept { sets_capacity sets.old ≤ sets_capacity sets.new }
+        // Memory runs out only if there are states to run and too little room for them.
         ensures memory { states_for self.now path.now ≡ 0 → IsOk result }
-        ensures room { max_states self.now ≤ sets_capacity sets.old → IsOk result }
+        ensures room { max_states self.now ≤ memory.old.room → IsOk result }
 
         // The number of visits never decreases, and its increase is bounded.
         ensures visits { visits.new
             ≤ visits.old + (1 + (length path.now + 1) * reads_for self.now path.now) }
         ensures counted { visits.old ≤ visits.new }
     {
-        if matches_part(
-            Part::Path,
-            &self.by_path,
-            path,
-            sets,
-            &mut caches.by_path,
-            visits,
-        )? {
+        if matches_part(Part::Path, &self.by_path, path, 0, memory, visits)? {
             return Ok(true);
         }
         if matches_part(
             Part::LastComponent,
             &self.by_component,
             path,
-            sets,
-            &mut caches.by_component,
+            1,
+            memory,
             visits,
         )? {
             return Ok(true);
         }
         let slot = self.slot_of(path, visits);
-        let caches = &mut caches.by_slot;
-        self.extensions.is_match(slot, path, sets, caches, visits)
+        self.extensions.is_match(slot, path, memory, visits)
     }
 
     /// Returns the slot of the extension of the path's last component, if it has one. The extension is only searched for if some
@@ -254,26 +231,23 @@ impl Automata {
     /// Returns whether tokens match the part that they are run on of some path below a directory.
     ///
     /// A path below the directory may have any last component, so no automaton is run for that. It may have any extension, so
-    /// the automata of all extensions are run over the directory. Each is run by the rows of its cache if there is any. The
-    /// sets get room for each state of an automaton that is stepped.
+    /// the automata of all extensions are run over the directory. Each is run by the rows of its cache if there is any.
     pub fn can_match_below(
         &self,
         folder: &[u8],
-        sets: &mut StateSets,
-        caches: &mut Caches,
+        memory: &mut Memory,
         visits: &mut Visits,
     ) -> Result<bool, AllocError>
-        // Each cache is of the automaton that it is used with, before and after the call. The answer is right.
-        requires { AreCachesOf self.now caches.old }
-        ensures caches { caches.new ≡ caches.old }
+        // The slots are those of the automata, and the memory fits all that it fitted. The answer is right.
+        requires { FitsAll self.now memory.old }
+        ensures kept { FitsAsBefore memory.old memory.new }
         ensures some { IfOk result
             (λ yes. (t : TokenLists) → AreForLists self.now t
             → IsTrue yes ↔ AreFoundBelow self.now.extensions t folder.now) }
 
-        // The sets lose no room. Memory runs out only if there are states to run and the sets have too little room.
-        ensures kept { sets_capacity sets.old ≤ sets_capacity sets.new }
+        // Memory runs out only if there are states to run and too little room for them.
         ensures memory { folder_reads self.now ≡ 0 → IsOk result }
-        ensures room { max_states self.now ≤ sets_capacity sets.old → IsOk result }
+        ensures room { max_states self.now ≤ memory.old.room → IsOk result }
 
         // The number of visits never decreases, and its increase is bounded.
         ensures visits { visits.new ≤ visits.old + (length folder.now + 2) * folder_reads self.now }
@@ -282,16 +256,14 @@ impl Automata {
         if self.has_component {
             return Ok(true);
         }
-        let cache = &mut caches.by_path;
         if self
             .by_path
-            .can_match_after(folder, b'/', sets, cache, visits)?
+            .can_match_after(folder, b'/', 0, memory, visits)?
         {
             return Ok(true);
         }
-        let caches = &mut caches.by_slot;
         self.extensions
-            .can_match_after(folder, b'/', sets, caches, visits)
+            .can_match_after(folder, b'/', memory, visits)
     }
 }
 

@@ -2,16 +2,14 @@
 //! `globset` and `c_objects` use it, and neither re-exports it.
 //!
 //! [`SetMatcherBuilder`] takes globs in order, and puts the tokens of each where its strategy says. [`SetMatcher`] looks up keys
-//! for the globs that a key decides, and runs automata for the others. They work in memory of the caller, and may keep rows of
-//! automata from path to path in [`Caches`].
+//! for the globs that a key decides, and runs automata for the others. They work in memory of the caller, which may
+//! have rows of automata from path to path ([`engine::Memory`]).
 #![tactic(auto)]
 
 mod automata;
-mod caches;
 mod folders;
 mod literal_index;
 mod matcher;
 mod path_part;
 
-pub use caches::Caches;
 pub use matcher::{SetMatcher, SetMatcherBuilder};

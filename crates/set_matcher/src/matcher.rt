@@ -10,23 +10,22 @@ ghost use Rattle.glob_syntax.specs.Views.{flats, tokens_of};
 ghost use Rattle.glob_syntax.specs.inner.Weight.{weight};
 ghost use Rattle.glob_text.specs.GlobMatches.{IsRead, glob_value};
 ghost use Rattle.set_matcher.specs.SetValue.{set_globs, set_states};
-ghost use Rattle.set_matcher.specs.inner.Caches.{AreCachesOf};
+ghost use Rattle.set_matcher.specs.inner.Memory.{FitsAll};
 ghost use Rattle.set_matcher.specs.inner.Automata.{automata_or_none};
 ghost use Rattle.set_matcher.specs.inner.SetMatcher.{AddsGlob, set_matcher_parts};
 ghost use Rattle.set_matcher.specs.inner.TokenGlobs.{token_glob};
 ghost use Rattle.bit_sets.specs.Indexes.{index_capacity};
 ghost use Rattle.bit_sets.specs.Texts.{AllBytes};
-ghost use Rattle.byte_nfa.specs.Sets.{sets_capacity};
+ghost use Rattle.engine.specs.Memory.{FitsAsBefore};
 ghost use Rattle.set_matcher.specs.Answer.{matching_indexes};
 ghost use Rattle.set_matcher.specs.Below.{MatchesBelow};
 ghost use Rattle.set_matcher.specs.Indexes.{ContainsAllBelow};
 ghost use Rattle.set_matcher.specs.Work.{load, load_below, max_set_visits, max_set_visits_below};
 
 use crate::automata::{Automata, AutomataBuilder, Target};
-use crate::caches::Caches;
 use crate::literal_index::{LiteralIndex, LiteralIndexBuilder};
 use bit_sets::{IndexSet, Visits};
-use byte_nfa::StateSets;
+use engine::Memory;
 use glob_path::{Candidate, PathParts};
 use glob_strategy::{MatchStrategy, strategy_of, tokens_after_prefix, tokens_before_ending};
 use glob_syntax::{Options, Token};
@@ -38,7 +37,7 @@ use std::sync::Arc;
 /// The stored form of a set: its globs, grouped by how each is decided. The index of a glob is its position. The texts and tokens
 /// of the globs are not stored; contracts see them.
 ///
-/// Contracts see the set, and the automata, so that it can be said which of them a cache is of.
+/// Contracts see the set, and the automata, so that it can be said which memory fits them.
 #[derive(Drop)]
 pub struct SetMatcher {
     alloc: Global,
@@ -96,9 +95,11 @@ impl SetMatcher {
         }
     }
 
-    /// Returns sets of states without room, to match with. It allocates nothing.
-    pub fn new_sets(&self) -> StateSets {
-        StateSets::new(self.alloc)
+    /// Returns a memory without room and slots, to match with. It allocates nothing.
+    pub fn empty_memory(&self) -> Memory
+        ensures { FitsAll self.now.automata result }
+    {
+        Memory::new(self.alloc)
     }
 
     /// Returns marks without room, to find globs with. It allocates nothing.
@@ -106,44 +107,46 @@ impl SetMatcher {
         IndexSet::empty(self.alloc)
     }
 
-    /// Returns caches with no rows for this matcher. All memory that they need is taken here.
-    pub fn new_caches(&self, alloc: Global) -> Result<Caches, AllocError>
-        ensures { IfOk result (λ caches. AreCachesOf self.now.automata caches) }
+    /// Returns all memory that calls of this matcher need, for indexes apart: room for the states of each automaton, and a cache
+    /// with no rows for each that may have rows.
+    pub fn new_memory(&self, alloc: Global) -> Result<Memory, AllocError>
+        ensures fits { IfOk result (λ memory. FitsAll self.now.automata memory) }
+        ensures room { IfOk result (λ memory. set_states self.now.set ≤ memory.room) }
     {
-        match &self.automata {
-            Some(automata) => automata.new_caches(alloc),
-            None => Ok(Caches::none()),
+        let mut memory = Memory::new(alloc);
+        if let Some(automata) = &self.automata {
+            automata.push_slots(alloc, &mut memory)?;
         }
+        memory.reserve(self.max_states())?;
+        Ok(memory)
     }
 
     /// Replaces the vector's items by the indexes, ascending, of the globs that are not excluded and match the path.
     ///
-    /// The marks get room for each index, and the sets for each state of an automaton that is stepped; the vector grows for the
-    /// indexes. It allocates nothing if they have that room and the vector a capacity for all indexes. After an error the vector
+    /// The marks get room for each index, and the memory for each state of an automaton that is stepped; the vector grows for the
+    /// indexes. It allocates nothing if there is that room and the vector a capacity for all indexes. After an error the vector
     /// is empty.
     pub fn find(
         &self,
         path: &Candidate<'_>,
-        sets: &mut StateSets,
+        memory: &mut Memory,
         marks: &mut IndexSet,
-        caches: &mut Caches,
         into: &mut Vec<usize>,
         visits: &mut Visits,
     ) -> Result<(), AllocError>
-        // Each cache is of the automaton that it is used with, before and after the call.
-        requires { AreCachesOf self.now.automata caches.old }
-        ensures caches { caches.new ≡ caches.old }
+        // The memory is for the automata, and fits all that it fitted.
+        requires { FitsAll self.now.automata memory.old }
+        ensures kept { FitsAsBefore memory.old memory.new }
 
         // After success the vector has the matching indexes, and after an error it is empty.
         ensures ok { OnOk result
             (into.new.items ≡ matching_indexes (set_globs self.now.set) path.now) }
         ensures cleared { OnErr result (into.new.items ≡ []) }
 
-        // The sets and the marks lose no room, and the vector's capacity does not shrink. Memory runs out only if the sets have
-        // too little room for the largest automaton, or the marks or the capacity for the globs.
-        ensures kept { sets_capacity sets.old ≤ sets_capacity sets.new }
+        // The marks lose no room, and the vector's capacity does not shrink. Memory runs out only if there is too little room for
+        // the largest automaton, or in the marks or the capacity for the globs.
         ensures marks { index_capacity marks.old ≤ index_capacity marks.new }
-        ensures room { set_states self.now.set ≤ sets_capacity sets.old
+        ensures room { set_states self.now.set ≤ memory.old.room
             → length (set_globs self.now.set) ≤ index_capacity marks.old
             → length (set_globs self.now.set) ≤ vec_capacity into.old → IsOk result }
         ensures capacity { vec_capacity into.old ≤ vec_capacity into.new }
@@ -156,7 +159,7 @@ impl SetMatcher {
         into.clear();
         let parts = self.parts_of(path.path());
         let are_run = match &self.automata {
-            Some(automata) => automata.find(&parts, sets, marks, caches, visits)?,
+            Some(automata) => automata.find(&parts, memory, marks, visits)?,
             None => false,
         };
         if !are_run {
@@ -176,25 +179,22 @@ impl SetMatcher {
 
     /// Returns whether some glob that is not excluded matches the path.
     ///
-    /// The sets get room for each state of an automaton that is stepped. It allocates nothing if they have that room, or if no glob
+    /// The memory gets room for each state of an automaton that is stepped. It allocates nothing if there is that room, or if no glob
     /// needs an automaton for the path.
     pub fn is_match(
         &self,
         path: &Candidate<'_>,
-        sets: &mut StateSets,
-        caches: &mut Caches,
+        memory: &mut Memory,
         visits: &mut Visits,
     ) -> Result<bool, AllocError>
-        // Each cache is of the automaton that it is used with, before and after the call. The answer is right.
-        requires { AreCachesOf self.now.automata caches.old }
-        ensures caches { caches.new ≡ caches.old }
+        // The memory is for the automata, and fits all that it fitted. The answer is right.
+        requires { FitsAll self.now.automata memory.old }
+        ensures kept { FitsAsBefore memory.old memory.new }
         ensures some { IfOk result
             (λ yes. IsTrue yes ↔ (matching_indexes (set_globs self.now.set) path.now ≢ [])) }
 
-        // The sets lose no room. Memory runs out only if some glob needs an automaton for the path and the sets have too little
-        // room.
-        ensures kept { sets_capacity sets.old ≤ sets_capacity sets.new }
-        ensures room { set_states self.now.set ≤ sets_capacity sets.old → IsOk result }
+        // Memory runs out only if some glob needs an automaton for the path and there is too little room for it.
+        ensures room { set_states self.now.set ≤ memory.old.room → IsOk result }
         ensures memory { load (set_globs self.now.set) path.now ≡ 0 → IsOk result }
 
         // The number of visits never decreases, and its increase is bounded.
@@ -207,36 +207,34 @@ impl SetMatcher {
             return Ok(true);
         }
         match &self.automata {
-            Some(automata) => automata.is_match(&parts, sets, caches, visits),
+            Some(automata) => automata.is_match(&parts, memory, visits),
             None => Ok(false),
         }
     }
 
     /// Returns whether every glob matches the path and none is excluded.
     ///
-    /// If an automaton has to be run, the marks get room for each index, and the sets for each state of an automaton that is
-    /// stepped. It allocates nothing if they have that room, or if no glob needs an automaton for the path.
+    /// If an automaton has to be run, the marks get room for each index, and the memory for each state of an automaton that is
+    /// stepped. It allocates nothing if there is that room, or if no glob needs an automaton for the path.
     pub fn matches_all(
         &self,
         path: &Candidate<'_>,
-        sets: &mut StateSets,
+        memory: &mut Memory,
         marks: &mut IndexSet,
-        caches: &mut Caches,
         visits: &mut Visits,
     ) -> Result<bool, AllocError>
-        // Each cache is of the automaton that it is used with, before and after the call. The answer is right.
-        requires { AreCachesOf self.now.automata caches.old }
-        ensures caches { caches.new ≡ caches.old }
+        // The memory is for the automata, and fits all that it fitted. The answer is right.
+        requires { FitsAll self.now.automata memory.old }
+        ensures kept { FitsAsBefore memory.old memory.new }
         ensures all { IfOk result
             (λ yes. IsTrue yes
             ↔ ContainsAllBelow (matching_indexes (set_globs self.now.set) path.now)
             (length (set_globs self.now.set))) }
 
-        // The sets and the marks lose no room. Memory runs out only if some glob needs an automaton for the path, and the sets
-        // have too little room for the largest automaton or the marks for the globs.
-        ensures kept { sets_capacity sets.old ≤ sets_capacity sets.new }
+        // The marks lose no room. Memory runs out only if some glob needs an automaton for the path, and there is too little room
+        // for the largest automaton or in the marks for the globs.
         ensures marks { index_capacity marks.old ≤ index_capacity marks.new }
-        ensures room { set_states self.now.set ≤ sets_capacity sets.old
+        ensures room { set_states self.now.set ≤ memory.old.room
             → length (set_globs self.now.set) ≤ index_capacity marks.old → IsOk result }
         ensures memory { load (set_globs self.now.set) path.now ≡ 0 → IsOk result }
 
@@ -247,7 +245,7 @@ impl SetMatcher {
     {
         let parts = self.parts_of(path.path());
         if let Some(automata) = &self.automata {
-            if automata.find(&parts, sets, marks, caches, visits)? {
+            if automata.find(&parts, memory, marks, visits)? {
                 self.keys.find(&parts, marks, visits);
                 return Ok(marks.has_all_below(self.len()));
             }
@@ -258,24 +256,22 @@ impl SetMatcher {
     /// Returns whether some glob that is not excluded matches some path below a directory: the directory, a `/`, and any bytes,
     /// perhaps none.
     ///
-    /// The sets get room for each state of an automaton that is stepped. It allocates nothing if they have that room, or if each
+    /// The memory gets room for each state of an automaton that is stepped. It allocates nothing if there is that room, or if each
     /// glob is direct.
     pub fn can_match_below(
         &self,
         folder: &[u8],
-        sets: &mut StateSets,
-        caches: &mut Caches,
+        memory: &mut Memory,
         visits: &mut Visits,
     ) -> Result<bool, AllocError>
-        // Each cache is of the automaton that it is used with, before and after the call. The answer is right.
-        requires { AreCachesOf self.now.automata caches.old }
-        ensures caches { caches.new ≡ caches.old }
+        // The memory is for the automata, and fits all that it fitted. The answer is right.
+        requires { FitsAll self.now.automata memory.old }
+        ensures kept { FitsAsBefore memory.old memory.new }
         ensures some { IfOk result
             (λ yes. IsTrue yes ↔ MatchesBelow (set_globs self.now.set) folder.now) }
 
-        // The sets lose no room. Memory runs out only if some glob is not direct and the sets have too little room.
-        ensures kept { sets_capacity sets.old ≤ sets_capacity sets.new }
-        ensures room { set_states self.now.set ≤ sets_capacity sets.old → IsOk result }
+        // Memory runs out only if some glob is not direct and there is too little room.
+        ensures room { set_states self.now.set ≤ memory.old.room → IsOk result }
         ensures memory { load_below (set_globs self.now.set) ≡ 0 → IsOk result }
 
         // The number of visits never decreases, and its increase is bounded.
@@ -287,7 +283,7 @@ impl SetMatcher {
             return Ok(true);
         }
         match &self.automata {
-            Some(automata) => { automata.can_match_below(folder, sets, caches, visits) }
+            Some(automata) => { automata.can_match_below(folder, memory, visits) }
             None => Ok(false),
         }
     }

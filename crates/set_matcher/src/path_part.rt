@@ -1,19 +1,17 @@
 //! The parts of a path that automata are run on.
 
-ghost use Rattle.std.specs.Prelude.{◌≡◌, ◌+◌, ◌*◌, ◌≤◌, ◌↔◌, ℕ, length, IsTrue, IsOk, OnOk, IfOk, IfSome};
+ghost use Rattle.std.specs.Prelude.{◌≡◌, ◌+◌, ◌*◌, ◌≤◌, ◌↔◌, ℕ, length, IsTrue, IsOk, OnOk, IfOk};
 ghost use Rattle.bit_sets.specs.Indexes.{index_capacity};
 ghost use Rattle.byte_nfa.specs.Runs.{size, max_reads};
-ghost use Rattle.byte_nfa.specs.Sets.{sets_capacity};
 ghost use Rattle.byte_nfa.specs.Steps.{IsReached};
 ghost use Rattle.engine.specs.Matching.{AddsReached};
+ghost use Rattle.engine.specs.Memory.{Fits, FitsAsBefore};
 ghost use Rattle.set_matcher.specs.inner.Automata.{before_extension};
 ghost use Rattle.set_matcher.specs.inner.PathPart.{part_of};
 
 use bit_sets::{IndexSet, Visits};
-use byte_nfa::StateSets;
-use engine::Compiled;
+use engine::{Compiled, Memory};
 use glob_path::PathParts;
-use lazy_dfa::Cache;
 use std::alloc::AllocError;
 
 /// A part of a path that an automaton is run on.
@@ -43,25 +41,24 @@ pub fn run(
     part: Part,
     automaton: &Compiled,
     path: &PathParts<'_>,
-    sets: &mut StateSets,
-    cache: &mut Option<Cache>,
+    slot: usize,
+    memory: &mut Memory,
     marks: &mut IndexSet,
     visits: &mut Visits,
 ) -> Result<(), AllocError>
-    // The marks have room for each index. A cache, if there is one, is of the automaton.
+    // The marks have room for each index, and the slot is the automaton's.
     requires count { automaton.now.index_count ≤ index_capacity marks.old }
-    requires cache { IfSome cache.old (λ c. c ≡ automaton.now) }
+    requires fits { Fits memory.old slot automaton.now }
 
-    // A cache is of the same automaton afterwards, and the marks have the same room. After success the marks have these indexes
-    // in addition.
-    ensures cache { cache.new ≡ cache.old }
+    // The memory fits all that it fitted, and the marks have the same room. After success the marks have these indexes in
+    // addition.
+    ensures kept { FitsAsBefore memory.old memory.new }
     ensures room { index_capacity marks.new ≡ index_capacity marks.old }
     ensures found { OnOk result
         (AddsReached automaton.now (part_of part path.now) marks.old marks.new) }
 
-    // The sets lose no room. Memory runs out only if they have too little room for the automaton's states.
-    ensures kept { sets_capacity sets.old ≤ sets_capacity sets.new }
-    ensures memory { size automaton.now ≤ sets_capacity sets.old → IsOk result }
+    // Memory runs out only if there is too little room for the automaton's states.
+    ensures memory { size automaton.now ≤ memory.old.room → IsOk result }
 
     // The number of visits never decreases, and its increase is bounded.
     ensures visits { visits.new ≤ visits.old + (length path.now + 1) * max_reads automaton.now }
@@ -71,7 +68,7 @@ pub fn run(
         return Ok(());
     }
     let text = part.of(path);
-    automaton.find(text, sets, cache, marks, visits)
+    automaton.find(text, slot, memory, marks, visits)
 }
 
 /// Returns whether a part of the path leads to some end. The part is only searched for if there are states.
@@ -80,19 +77,18 @@ pub fn matches_part(
     part: Part,
     automaton: &Compiled,
     path: &PathParts<'_>,
-    sets: &mut StateSets,
-    cache: &mut Option<Cache>,
+    slot: usize,
+    memory: &mut Memory,
     visits: &mut Visits,
 ) -> Result<bool, AllocError>
-    // A cache, if there is one, is of the automaton, before and after the call. The answer is right.
-    requires { IfSome cache.old (λ c. c ≡ automaton.now) }
-    ensures cache { cache.new ≡ cache.old }
+    // The slot is the automaton's, and the memory fits all that it fitted. The answer is right.
+    requires { Fits memory.old slot automaton.now }
+    ensures kept { FitsAsBefore memory.old memory.new }
     ensures some { IfOk result
         (λ yes. IsTrue yes ↔ ((k : ℕ) × IsReached automaton.now (part_of part path.now) k)) }
 
-    // The sets lose no room. Memory runs out only if they have too little room for the automaton's states.
-    ensures kept { sets_capacity sets.old ≤ sets_capacity sets.new }
-    ensures memory { size automaton.now ≤ sets_capacity sets.old → IsOk result }
+    // Memory runs out only if there is too little room for the automaton's states.
+    ensures memory { size automaton.now ≤ memory.old.room → IsOk result }
 
     // The number of visits never decreases, and its increase is bounded.
     ensures visits { visits.new ≤ visits.old + (length path.now + 1) * max_reads automaton.now }
@@ -102,7 +98,7 @@ pub fn matches_part(
         return Ok(false);
     }
     let text = part.of(path);
-    automaton.is_match(text, sets, cache, visits)
+    automaton.is_match(text, slot, memory, visits)
 }
 
 /// Returns the bytes of a path before the extension of its last component.

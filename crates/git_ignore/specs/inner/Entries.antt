@@ -1,12 +1,13 @@
 -- The stored form of a file's rules: an automaton of their patterns, and an entry for each rule. No contract of the crate's public
 -- calls cites this.
-use Rattle.std.specs.Prelude.{◌≡◌, ℕ, zero, suc, Bool, not, ◌||◌, List, [], ◌∷◌, Option, Some, None, if◌then◌else◌, map, slice_get, IfSome, ◌++◌}
+use Rattle.std.specs.Prelude.{◌≡◌, ℕ, zero, suc, Bool, not, ◌||◌, List, [], ◌∷◌, Option, Some, None, if◌then◌else◌, map, slice_get, ◌++◌, ◌+◌, ◌≤◌}
 use Rattle.byte_nfa.specs.Runs.{size}
 use Rattle.byte_nfa.specs.Steps.{NfaValue}
+use Rattle.engine.specs.Memory.{Fits, MemoryValue}
 use Rattle.ignore_pattern.specs.Automata.{IsAutomatonOf}
 use Rattle.ignore_pattern.specs.Patterns.{Pattern}
 use Rattle.git_ignore.specs.Rules.{Rule, patterns_of}
-use Rattle.git_ignore.specs.RulesValue.{RulesValue, ScratchValue, FitsRules}
+use Rattle.git_ignore.specs.RulesValue.{RulesValue}
 use Rattle.git_ignore.specs.declared.decision.DecidingRule.{DecidingRule}
 use Rattle.git_ignore.specs.declared.entry.RuleEntry.{RuleEntry}
 
@@ -91,7 +92,8 @@ pub record AreStored (ignore_case : Bool) (rules : List Rule) (automaton : NfaVa
   pub finds_patterns : IsAutomatonOf ignore_case (patterns_of rules) automaton
   pub same_entries : entries ≡ entries_of rules
 
--- the memory of a searcher: the scratch fits the rules, and the cache is for their automaton
-pub record IsSearcherOf (stored : StoredValue) (scratch : ScratchValue) (cache : Option NfaValue) : Type 0 where
-  pub fits : FitsRules scratch (rules_value stored)
-  pub for_automaton : IfSome cache (λ c. c ≡ stored.automaton)
+-- the memory of a searcher: it fits the automaton of the rules, with room for its states, and so many indexes are enough
+pub record IsSearcherOf (stored : StoredValue) (memory : MemoryValue) (indexes : ℕ) : Type 0 where
+  pub fits : Fits memory 0 stored.automaton
+  pub states : (rules_value stored).states ≤ memory.room
+  pub enough : stored.rules + 2 ≤ indexes

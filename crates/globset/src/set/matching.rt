@@ -10,7 +10,6 @@ ghost use Rattle.globset.specs.SetValue.{Fits, set_globs, set_states};
 
 use crate::set::GlobSet;
 use globset_glob::{AsPath, Candidate, Error, NeedsScratch, Scratch, Visits};
-use set_matcher::Caches;
 use std::alloc::Global;
 
 impl GlobSet {
@@ -29,9 +28,8 @@ impl GlobSet {
         if let Some(matcher) = self.matcher() {
             matcher.find(
                 &Candidate::new(path.path_text()),
-                &mut matcher.new_sets(),
+                &mut matcher.empty_memory(),
                 &mut matcher.new_marks(),
-                &mut Caches::none(),
                 &mut indexes,
                 &mut Visits::new(),
             )?;
@@ -144,9 +142,8 @@ impl GlobSet {
         };
         matcher.find(
             path,
-            &mut matcher.new_sets(),
+            &mut matcher.empty_memory(),
             &mut matcher.new_marks(),
-            &mut Caches::none(),
             into,
             visits,
         )?;
@@ -191,9 +188,9 @@ impl GlobSet {
             into.clear();
             return Ok(());
         };
-        let sets = &mut scratch.sets;
+        let memory = &mut scratch.memory;
         let marks = &mut scratch.marks;
-        matcher.find(path, sets, marks, &mut Caches::none(), into, visits)?;
+        matcher.find(path, memory, marks, into, visits)?;
         Ok(())
     }
 
@@ -264,7 +261,7 @@ impl GlobSet {
         let Some(matcher) = self.matcher() else {
             return Ok(false);
         };
-        Ok(matcher.is_match(path, &mut matcher.new_sets(), &mut Caches::none(), visits)?)
+        Ok(matcher.is_match(path, &mut matcher.empty_memory(), visits)?)
     }
 
     /// Like [`GlobSet::is_match_visits`], but with a scratch: it does not allocate, and cannot fail.
@@ -290,9 +287,7 @@ impl GlobSet {
         let Some(matcher) = self.matcher() else {
             return false;
         };
-        matcher
-            .is_match(path, &mut scratch.sets, &mut Caches::none(), visits)
-            .unwrap()
+        matcher.is_match(path, &mut scratch.memory, visits).unwrap()
     }
 
     /// Returns whether every glob matches the path and none is excluded: whether [`GlobSet::matches`] would return every
@@ -371,9 +366,8 @@ impl GlobSet {
         };
         Ok(matcher.matches_all(
             path,
-            &mut matcher.new_sets(),
+            &mut matcher.empty_memory(),
             &mut matcher.new_marks(),
-            &mut Caches::none(),
             visits,
         )?)
     }
@@ -403,11 +397,9 @@ impl GlobSet {
         let Some(matcher) = self.matcher() else {
             return true;
         };
-        let sets = &mut scratch.sets;
+        let memory = &mut scratch.memory;
         let marks = &mut scratch.marks;
-        matcher
-            .matches_all(path, sets, marks, &mut Caches::none(), visits)
-            .unwrap()
+        matcher.matches_all(path, memory, marks, visits).unwrap()
     }
 
     /// Returns whether some glob that is not excluded matches some path below a directory. If this returns false, a walk can
@@ -490,12 +482,7 @@ impl GlobSet {
         let Some(matcher) = self.matcher() else {
             return Ok(false);
         };
-        Ok(matcher.can_match_below(
-            folder.path(),
-            &mut matcher.new_sets(),
-            &mut Caches::none(),
-            visits,
-        )?)
+        Ok(matcher.can_match_below(folder.path(), &mut matcher.empty_memory(), visits)?)
     }
 
     /// Like [`GlobSet::can_match_below_visits`], but with a scratch: it does not allocate, and cannot fail.
@@ -535,12 +522,7 @@ impl GlobSet {
             return false;
         };
         matcher
-            .can_match_below(
-                folder.path(),
-                &mut scratch.sets,
-                &mut Caches::none(),
-                visits,
-            )
+            .can_match_below(folder.path(), &mut scratch.memory, visits)
             .unwrap()
     }
 }

@@ -1,8 +1,9 @@
 -- How a matcher decides: the key or the automaton of a glob.
-use Rattle.std.specs.Prelude.{◌≡◌, ◌≤◌, ℕ, [], ◌∷◌}
+use Rattle.std.specs.Prelude.{◌≡◌, ◌≤◌, ℕ, [], ◌∷◌, ⊤}
 use Rattle.std.specs.Arc.{arc_value}
 use Rattle.byte_nfa.specs.Steps.{NfaValue}
 use Rattle.byte_nfa.specs.Runs.{size, max_reads}
+use Rattle.engine.specs.Memory.{Fits, MemoryValue}
 use Rattle.glob_strategy.specs.IndexedTokens.{indexed, IsFor}
 use Rattle.glob_strategy.specs.inner.DecidedByKey.{IsDecidedBy}
 use Rattle.glob_path.specs.Key.{key_seen}
@@ -27,7 +28,7 @@ abbrev pub form_states : Strategy → ℕ
 form_states (Key key) = 0
 form_states (Automaton m) = size (arc_value m)
 
--- a cache of rows belongs to the automaton; a key has none
-abbrev pub IsCacheOf : Strategy → NfaValue → Type 0
-IsCacheOf (Key key) cache = ⊥
-IsCacheOf (Automaton m) cache = cache ≡ arc_value m
+-- the memory fits the automaton by its first slot; a key needs none
+abbrev pub FitsStrategy : MemoryValue → Strategy → Type 0
+FitsStrategy memory (Key key) = ⊤
+FitsStrategy memory (Automaton m) = Fits memory 0 (arc_value m)

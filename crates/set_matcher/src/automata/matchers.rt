@@ -1,25 +1,24 @@
 //! Automata for globs that match only paths whose last component has a given extension.
 
-ghost use Rattle.std.specs.Prelude.{◌≡◌, ◌+◌, ◌*◌, ◌<◌, ◌≤◌, ◌↔◌, ◌++◌, ◌∷◌, [], ℕ, List, length, IsTrue, IsOk, OnOk, IfOk, None, Some, OnErr};
+ghost use Rattle.std.specs.Prelude.{◌≡◌, ◌+◌, ◌*◌, ◌^◌, ◌<◌, ◌≤◌, ◌↔◌, ◌++◌, ◌∷◌, [], ℕ, List, length, IsTrue, IsOk, OnOk, IfOk, None, Some, OnErr};
 ghost use Rattle.bit_sets.specs.Indexes.{index_capacity};
 ghost use Rattle.byte_nfa.specs.Runs.{size, max_reads};
-ghost use Rattle.byte_nfa.specs.Sets.{sets_capacity};
 ghost use Rattle.byte_nfa.specs.Steps.{IsReached};
 ghost use Rattle.engine.specs.Matching.{AddsReached};
+ghost use Rattle.engine.specs.Memory.{FitsAsBefore};
 ghost use Rattle.glob_strategy.specs.IndexedTokens.{IndexedTokens, indexed};
 ghost use Rattle.glob_syntax.specs.FlatTokens.{IsNested};
 ghost use Rattle.glob_syntax.specs.Views.{flats, tokens_of};
 ghost use Rattle.glob_syntax.specs.inner.Weight.{weight};
-ghost use Rattle.set_matcher.specs.inner.Automata.{AddsReads, AddsTokensTo, AreFor, KeepsTokens, SomeLeadsAfter, before_extension, nfa_at, nfa_under, max_size, slot_of, total_reads};
-ghost use Rattle.set_matcher.specs.inner.Caches.{AreSlotCaches};
+ghost use Rattle.set_matcher.specs.inner.Automata.{AddsReads, AddsTokensTo, AreFor, KeepsTokens, AutomataParts, SomeLeadsAfter, before_extension, nfa_at, nfa_under, max_size, slot_of, total_reads};
+ghost use Rattle.set_matcher.specs.inner.Memory.{FitsAll, FitsExtensions};
 ghost use Rattle.glob_path.specs.Entries.{entry};
 ghost use Rattle.set_matcher.specs.inner.ExtensionSlots.{HasSlots};
 
-use crate::caches::SlotCaches;
 use crate::path_part::before_extension;
 use bit_sets::{IndexSet, Visits};
-use byte_nfa::{Builder, StateSets};
-use engine::Compiled;
+use byte_nfa::Builder;
+use engine::{Compiled, Memory};
 use glob_path::{PathParts, Table, TableBuilder};
 use glob_strategy::{add_tokens, new_builder};
 use glob_syntax::{Options, Token};
@@ -111,6 +110,9 @@ impl ExtensionMatchers {
         // The automaton has no more states than the largest one, and its indexes are below the same number as those of all.
         ensures maximum { size result.now ≤ max_size self.now.nfas }
         ensures count { result.now.index_count ≡ self.now.index_count }
+
+        // So few automata are there that each has a slot in a memory, where two others come first.
+        ensures few { slot + 2 < 2 ^ 64 }
     {
         &self.automata[slot]
     }
@@ -127,18 +129,20 @@ impl ExtensionMatchers {
         }
     }
 
-    /// Returns caches with no rows for the automata that need any. Runs with them allocate nothing for rows.
-    pub fn new_caches(&self, alloc: Global) -> Result<SlotCaches, AllocError>
-        ensures { IfOk result (λ caches. AreSlotCaches self.now.nfas caches) }
+    /// Gives a memory with two slots those of the automata, if any of these may have rows: each that may gets a cache for them.
+    pub fn push_slots(&self, alloc: Global, memory: &mut Memory) -> Result<(), AllocError>
+        requires { length memory.old.caches ≡ 2 }
+        ensures { OnOk result
+            ((a : AutomataParts) → a.extensions.nfas ≡ self.now.nfas
+            → FitsAll a memory.old → FitsAll a memory.new) }
     {
         if !self.have_rows() {
-            return Ok(SlotCaches::none());
+            return Ok(());
         }
-        let mut caches = Vec::with_capacity(alloc, self.automata.len())?;
         for automaton in &self.automata {
-            caches.push(automaton.new_cache(alloc)?)?;
+            memory.push_slot(automaton.new_cache(alloc)?)?;
         }
-        Ok(SlotCaches::of(caches))
+        Ok(())
     }
 
     /// Returns whether runs of some automaton need a cache.
@@ -159,27 +163,25 @@ impl ExtensionMatchers {
         &self,
         slot: Option<usize>,
         path: &PathParts<'_>,
-        sets: &mut StateSets,
-        caches: &mut SlotCaches,
+        memory: &mut Memory,
         marks: &mut IndexSet,
         visits: &mut Visits,
     ) -> Result<(), AllocError>
-        // The slot, if there is any, is the position of an automaton. The marks have room for each index. Each cache is of the
-        // automaton that it is used with.
+        // The slot, if there is any, is the position of an automaton. The marks have room for each index. The slots are those
+        // of the automata.
         requires slot { (s : ℕ) → slot ≡ Some s → s < length self.now.nfas }
         requires count { self.now.index_count ≤ index_capacity marks.old }
-        requires caches { AreSlotCaches self.now.nfas caches.old }
+        requires fits { FitsExtensions self.now.nfas memory.old }
 
-        // Each cache is of the same automaton afterwards, and the marks have the same room. After success the marks have these
-        // indexes in addition.
-        ensures caches { caches.new ≡ caches.old }
+        // The memory fits all that it fitted, and the marks have the same room. After success the marks have these indexes in
+        // addition.
+        ensures kept { FitsAsBefore memory.old memory.new }
         ensures room { index_capacity marks.new ≡ index_capacity marks.old }
         ensures found { OnOk result
             (AddsReached (nfa_at self.now.nfas slot) (before_extension path.now) marks.old marks.new) }
 
-        // The sets lose no room. Memory runs out only if they have too little room for the largest automaton.
-        ensures kept { sets_capacity sets.old ≤ sets_capacity sets.new }
-        ensures memory { max_size self.now.nfas ≤ sets_capacity sets.old → IsOk result }
+        // Memory runs out only if there is too little room for the largest automaton.
+        ensures memory { max_size self.now.nfas ≤ memory.old.room → IsOk result }
 
         // The number of visits never decreases, and its increase is bounded.
         ensures visits { visits.new
@@ -191,13 +193,7 @@ impl ExtensionMatchers {
         };
         let automaton = self.automaton_at(slot);
         let text = before_extension(path);
-        if let Some(caches) = &mut caches.caches {
-            if slot < caches.len() {
-                let cache = &mut caches[slot];
-                return automaton.find(text, sets, cache, marks, visits);
-            }
-        }
-        automaton.find(text, sets, &mut None, marks, visits)
+        automaton.find(text, slot + 2, memory, marks, visits)
     }
 
     /// Returns whether the bytes before the extension of the path lead to some end of the automaton of a slot. Without a slot
@@ -206,24 +202,22 @@ impl ExtensionMatchers {
         &self,
         slot: Option<usize>,
         path: &PathParts<'_>,
-        sets: &mut StateSets,
-        caches: &mut SlotCaches,
+        memory: &mut Memory,
         visits: &mut Visits,
     ) -> Result<bool, AllocError>
-        // The slot, if there is any, is the position of an automaton. Each cache is of the automaton that it is used with.
+        // The slot, if there is any, is the position of an automaton. The slots are those of the automata.
         requires slot { (s : ℕ) → slot ≡ Some s → s < length self.now.nfas }
-        requires caches { AreSlotCaches self.now.nfas caches.old }
+        requires fits { FitsExtensions self.now.nfas memory.old }
 
-        // Each cache is of the same automaton afterwards. The answer is right.
-        ensures caches { caches.new ≡ caches.old }
+        // The memory fits all that it fitted. The answer is right.
+        ensures kept { FitsAsBefore memory.old memory.new }
         ensures some { IfOk result
             (λ yes. IsTrue yes
             ↔ ((k : ℕ) × IsReached (nfa_at self.now.nfas slot) (before_extension path.now) k)) }
 
-        // The sets lose no room. Memory runs out only if they have too little room for the states of the slot.
-        ensures kept { sets_capacity sets.old ≤ sets_capacity sets.new }
-        ensures memory { size (nfa_at self.now.nfas slot) ≤ sets_capacity sets.old → IsOk result }
-        ensures room { max_size self.now.nfas ≤ sets_capacity sets.old → IsOk result }
+        // Memory runs out only if there is too little room for the states of the slot.
+        ensures memory { size (nfa_at self.now.nfas slot) ≤ memory.old.room → IsOk result }
+        ensures room { max_size self.now.nfas ≤ memory.old.room → IsOk result }
 
         // The number of visits never decreases, and its increase is bounded.
         ensures visits { visits.new
@@ -235,36 +229,27 @@ impl ExtensionMatchers {
         };
         let automaton = self.automaton_at(slot);
         let text = before_extension(path);
-        if let Some(caches) = &mut caches.caches {
-            if slot < caches.len() {
-                let cache = &mut caches[slot];
-                return automaton.is_match(text, sets, cache, visits);
-            }
-        }
-        automaton.is_match(text, sets, &mut None, visits)
+        automaton.is_match(text, slot + 2, memory, visits)
     }
 
     /// Returns whether some text that begins with `text` and then `byte` leads to some end of the automaton of some extension.
     ///
-    /// It is at most `(text bytes + 2) * (states + 3 * starts)` visits of each automaton. The runs use the same sets of states in
-    /// turn. The sets get room for each state of an automaton that is stepped.
+    /// It is at most `(text bytes + 2) * (states + 3 * starts)` visits of each automaton. The runs use the memory in turn.
     pub fn can_match_after(
         &self,
         text: &[u8],
         byte: u8,
-        sets: &mut StateSets,
-        caches: &mut SlotCaches,
+        memory: &mut Memory,
         visits: &mut Visits,
     ) -> Result<bool, AllocError>
-        // Each cache is of the automaton that it is used with, before and after the call. The answer is right.
-        requires { AreSlotCaches self.now.nfas caches.old }
-        ensures caches { caches.new ≡ caches.old }
+        // The slots are those of the automata, and the memory fits all that it fitted. The answer is right.
+        requires { FitsExtensions self.now.nfas memory.old }
+        ensures kept { FitsAsBefore memory.old memory.new }
         ensures some { IfOk result
             (λ yes. IsTrue yes ↔ SomeLeadsAfter self.now.nfas (text.now ++ byte ∷ [])) }
 
-        // The sets lose no room. Memory runs out only if they have too little room for the largest automaton.
-        ensures kept { sets_capacity sets.old ≤ sets_capacity sets.new }
-        ensures room { max_size self.now.nfas ≤ sets_capacity sets.old → IsOk result }
+        // Memory runs out only if there is too little room for the largest automaton.
+        ensures room { max_size self.now.nfas ≤ memory.old.room → IsOk result }
 
         // The number of visits never decreases, and its increase is bounded.
         ensures visits { visits.new
@@ -272,7 +257,7 @@ impl ExtensionMatchers {
         ensures counted { visits.old ≤ visits.new }
     {
         for (slot, automaton) in self.automata.iter().enumerate() {
-            if caches.can_match_after(slot, automaton, text, byte, sets, visits)? {
+            if automaton.can_match_after(text, byte, slot + 2, memory, visits)? {
                 return Ok(true);
             }
         }

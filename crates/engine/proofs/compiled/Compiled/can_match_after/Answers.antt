@@ -20,12 +20,6 @@ returns-then-not-has_starts-clause-some c =
     let is : c.deref.result.now.nfa ≡ m = ap (λ (v : SimulationValue). v.nfa) c.deref.ensures ∙ c.self.invariant.0 ∙ c.self.view_is in
     never_after m (subst (λ (x : NfaValue). (y : List ℕ) (k : ℕ) → IsReached x y k → ⊥) is (c.has_starts.ensures.none c.if-not-has_starts.true)) c.args.text.now c.args.byte
 
-pub returns-in-Some-clause-some : goal.returns-in-Some-clause-some
-returns-in-Some-clause-some c =
-    let m = c.args.self.now in
-    let made_for : c.in-Some.cache ≡ m = subst (λ (o : Option NfaValue). IfSome o (λ r. r ≡ m)) c.in-Some.is c.requires in
-    subst (λ (x : NfaValue). IsTrue c.can_match_after.result ↔ MatchesAfter x (c.args.text.now ++ c.args.byte ∷ [])) made_for c.can_match_after.ensures.some
-
 pub returns-clause-some : goal.returns-clause-some
 returns-clause-some c =
     let m = c.args.self.now in

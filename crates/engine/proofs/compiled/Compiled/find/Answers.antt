@@ -21,12 +21,6 @@ pub returns-then-leads_to_none-clause-reached : goal.returns-then-leads_to_none-
 returns-then-leads_to_none-clause-reached c =
     none_added c.args.self.now c.args.text.now c.args.found.now (c.leads_to_none.ensures.none c.if-leads_to_none.true)
 
-pub returns-in-Some-clause-reached : goal.returns-in-Some-clause-reached
-returns-in-Some-clause-reached c =
-    let m = c.args.self.now in
-    let made_for : c.in-Some.cache ≡ m = subst (λ (o : Option NfaValue). IfSome o (λ r. r ≡ m)) c.in-Some.is c.requires.cache in
-    subst (λ (x : NfaValue). AddsReached x c.args.text.now c.args.found.now c.find.new.found) made_for c.find.ensures.found
-
 pub returns-clause-reached : goal.returns-clause-reached
 returns-clause-reached c =
     let m = c.args.self.now in

@@ -16,12 +16,6 @@ returns-in-Some-is_match-clause-some c =
 pub returns-then-leads_to_none-clause-some : goal.returns-then-leads_to_none-clause-some
 returns-then-leads_to_none-clause-some c = none_matches c.args.self.now c.args.text.now (c.leads_to_none.ensures.none c.if-leads_to_none.true)
 
-pub returns-in-Some-clause-some : goal.returns-in-Some-clause-some
-returns-in-Some-clause-some c =
-    let m = c.args.self.now in
-    let made_for : c.in-Some.cache ≡ m = subst (λ (o : Option NfaValue). IfSome o (λ r. r ≡ m)) c.in-Some.is c.requires in
-    subst (λ (x : NfaValue). IsTrue c.is_match.result ↔ ((k : ℕ) × IsReached x c.args.text.now k)) made_for c.is_match.ensures.some
-
 pub returns-clause-some : goal.returns-clause-some
 returns-clause-some c =
     let m = c.args.self.now in

@@ -3,7 +3,6 @@ use Rattle.std.proofs.lemmas.List.{length-map}
 use Rattle.bit_sets.proofs.lemmas.Texts.{all_bytes}
 use Rattle.bit_sets.specs.Indexes.{has_index}
 use Rattle.git_ignore.specs.Rules.{Rule, deciding_rule, patterns_of, rules_of}
-use Rattle.git_ignore.specs.RulesValue.{FitsRules, ScratchValue}
 use Rattle.git_ignore.specs.inner.Entries.{StoredValue, rules_value}
 use Rattle.git_ignore.specs.declared.path_rule.PathRule.{PathRule}
 use Rattle.git_ignore.specs.inner.PathRules.{IsPathRule}
@@ -14,20 +13,16 @@ use Rattle.git_ignore.proofs.stored.StoredRules.path_rule.Goals as goal
 pub find-requires-clause-count : goal.find-requires-clause-count
 find-requires-clause-count c =
     let r = c.self.inside in
-    let s = c.scratch.inside in
-    let at_scratch = subst (λ (v : ScratchValue). FitsRules v (rules_value c.args.self.now)) (sym c.scratch.view_is) c.requires.fits in
-    let fits = subst (λ (v : StoredValue). FitsRules (record { states = s.states; rules = s.rules }) (rules_value v)) (sym c.self.view_is) at_scratch in
-    omega (arith, entry_count r.ignore_case (rules_of r.file.items) r.automaton r.entries.items c.self.invariant, fits.for_rules, c.scratch.invariant.1, c.clear.ensures.room)
+    let rules = ap (λ (v : StoredValue). v.rules) c.self.view_is in
+    omega (arith, entry_count r.ignore_case (rules_of r.file.items) r.automaton r.entries.items c.self.invariant, rules, c.requires.indexes, c.clear.ensures.room)
 
 pub returns-clause-rule : goal.returns-clause-rule
 returns-clause-rule c =
     let r = c.self.inside in
-    let s = c.scratch.inside in
     let rules = rules_of r.file.items in
     let path = c.args.path.now in
-    let at_scratch = subst (λ (v : ScratchValue). FitsRules v (rules_value c.args.self.now)) (sym c.scratch.view_is) c.requires.fits in
-    let fits = subst (λ (v : StoredValue). FitsRules (record { states = s.states; rules = s.rules }) (rules_value v)) (sym c.self.view_is) at_scratch in
-    let adds = from_ok c.find.result (c.find.ensures.memory (omega (arith, fits.for_states, c.scratch.invariant.0))) c.find.ensures.reached in
+    let states = ap (λ (v : StoredValue). (rules_value v).states) c.self.view_is in
+    let adds = from_ok c.find.result (c.find.ensures.memory (omega (arith, states, c.requires.states))) c.find.ensures.reached in
     let bytes = all_bytes path (λ i. (c.type_inv.path i).fits) in
     let count = pattern_count r.ignore_case rules r.automaton r.entries.items c.self.invariant in
     let matched = found_matches r.ignore_case (patterns_of rules) r.automaton path c.clear.new.self c.find.new.found c.self.invariant.finds_patterns bytes c.clear.ensures.none adds in

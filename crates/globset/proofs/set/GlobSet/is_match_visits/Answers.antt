@@ -4,6 +4,3 @@ use Rattle.globset.proofs.set.GlobSet.is_match_visits.Goals as goal
 
 pub returns-in_default-clause-ok : goal.returns-in_default-clause-ok
 returns-in_default-clause-ok c = none_of_none (set_globs c.args.self.now) c.args.path.now (c.matcher.ensures.none c.in_default.is)
-
-pub is_match-requires : goal.is_match-requires
-is_match-requires c = c.none.ensures c.in-Some.matcher.now.automata

@@ -7,9 +7,6 @@ use Rattle.globset.proofs.lemmas.Answer.{answer_of_none}
 use Rattle.globset.proofs.set.GlobSet.matches.Goals as goal
 use Rattle.globset.proofs.set.GlobSet.matches.Goals.{in-Some+in_ok-find, in_default}
 
-pub find-requires : goal.find-requires
-find-requires g c = c.none.ensures c.in-Some.matcher.now.automata
-
 pub returns-clause-ok : goal.returns-clause-ok
 returns-clause-ok g c = elim c.match-matcher.branch [
   | in-Some+in_ok-find w ↦

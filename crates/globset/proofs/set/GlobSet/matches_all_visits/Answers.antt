@@ -8,6 +8,3 @@ use Rattle.globset.proofs.set.GlobSet.matches_all_visits.Goals as goal
 pub returns-clause-ok : goal.returns-clause-ok
 returns-clause-ok c =
     subst (λ (s : SetValue). IsTrue c.in_ok-matches_all.field-0 ↔ ContainsAllBelow (matching_indexes (set_globs s) c.args.path.now) (length (set_globs s))) c.in-Some.ensures.set c.in_ok-matches_all.ensures.all
-
-pub matches_all-requires : goal.matches_all-requires
-matches_all-requires c = c.none.ensures c.in-Some.matcher.now.automata

@@ -5,6 +5,3 @@ use Rattle.globset.proofs.set.GlobSet.matches_visits.Goals as goal
 
 pub returns-in_default-clause-ok : goal.returns-in_default-clause-ok
 returns-in_default-clause-ok c = c.clear.ensures.items ∙ answer_of_none (set_globs c.args.self.now) c.args.path.now (c.matcher.ensures.none c.in_default.is)
-
-pub find-requires : goal.find-requires
-find-requires c = c.none.ensures c.in-Some.matcher.now.automata

@@ -2,7 +2,6 @@ use Rattle.std.proofs.Common.{◌≡◌, ◌+◌, ◌*◌, ◌≤◌, length, re
 use Rattle.glob_strategy.specs.IndexedTokens.{IsFor}
 use Rattle.glob_strategy.proofs.lemmas.IndexedTokens.{reached_matches}
 use Rattle.byte_nfa.specs.Runs.{size, max_reads}
-use Rattle.byte_nfa.specs.Sets.{sets_capacity}
 use Rattle.byte_nfa.specs.Steps.{NfaValue}
 use Rattle.std.proofs.Math.Logic.{⊎_elim}
 use Rattle.glob_path.specs.PathParts.{last_component, component_extension}
@@ -118,15 +117,15 @@ returns-in_err-reserve-clause-room c = λ _ indexes.
 
 pub returns-in_err-run-clause-room : goal.returns-in_err-run-clause-room
 returns-in_err-run-clause-room c = λ has _.
-    let states = subst (λ (p : AutomataParts). max_states p ≤ sets_capacity c.args.sets.now) (sym c.self.view_is) has in
+    let states = subst (λ (p : AutomataParts). max_states p ≤ c.args.memory.now.room) (sym c.self.view_is) has in
     absurd (true≢false (sym (c.in_err-run.ensures.memory (omega (arith, states)))))
 
 pub returns-in_err-run-2-clause-room : goal.returns-in_err-run-2-clause-room
 returns-in_err-run-2-clause-room c = λ has _.
-    let states = subst (λ (p : AutomataParts). max_states p ≤ sets_capacity c.args.sets.now) (sym c.self.view_is) has in
-    absurd (true≢false (sym (c.in_err-run-2.ensures.memory (omega (arith, states, c.in_ok-run.ensures.kept)))))
+    let states = subst (λ (p : AutomataParts). max_states p ≤ c.args.memory.now.room) (sym c.self.view_is) has in
+    absurd (true≢false (sym (c.in_err-run-2.ensures.memory (omega (arith, states, c.in_ok-run.ensures.kept.room)))))
 
 pub returns-in_err-find-clause-room : goal.returns-in_err-find-clause-room
 returns-in_err-find-clause-room c = λ has _.
-    let states = subst (λ (p : AutomataParts). max_states p ≤ sets_capacity c.args.sets.now) (sym c.self.view_is) has in
-    absurd (true≢false (sym (c.in_err-find.ensures.memory (omega (arith, states, c.in_ok-run.ensures.kept, c.in_ok-run-2.ensures.kept)))))
+    let states = subst (λ (p : AutomataParts). max_states p ≤ c.args.memory.now.room) (sym c.self.view_is) has in
+    absurd (true≢false (sym (c.in_err-find.ensures.memory (omega (arith, states, c.in_ok-run.ensures.kept.room, c.in_ok-run-2.ensures.kept.room)))))

@@ -3,7 +3,8 @@ use Rattle.std.proofs.lemmas.List.{take_all}
 use Rattle.byte_nfa.specs.Live.{MatchesAfter}
 use Rattle.byte_nfa.specs.Steps.{NfaValue}
 use Rattle.set_matcher.specs.inner.Automata.{ExtensionParts, total_reads}
-use Rattle.set_matcher.specs.inner.Caches.{IsCacheAt}
+use Rattle.engine.specs.Memory.{Fits}
+use Rattle.engine.proofs.lemmas.Memory.{fits_still, kept_twice}
 use Rattle.set_matcher.proofs.lemmas.ExtensionMatchers.{is_at, none_limit, size_within, visits_more, visits_within}
 use Rattle.set_matcher.proofs.automata.matchers.ExtensionMatchers.can_match_after.Goals as goal
 
@@ -18,8 +19,7 @@ loop-slot-preserved c =
     let is = subst (λ (ms : List NfaValue). m ≡ get_or ms i m) same c.automaton-item.is in
     record {
       none = none_limit nfas i m lt is (λ x. MatchesAfter x (c.args.text.now ++ c.args.byte ∷ [])) inv.none (λ some. true≢false (sym (c.in_ok-can_match_after.ensures.some.1 some) ∙ c.if-branch.false));
-      caches = c.can_match_after.ensures.caches ∙ inv.caches;
-      kept = omega (arith, c.can_match_after.ensures.kept, inv.kept);
+      kept = kept_twice inv.kept c.can_match_after.ensures.kept;
       visits = visits_more nfas i m lt is (length c.args.text.now + 2) c.args.visits.now c.loop-slot.visits c.can_match_after.new.visits c.can_match_after.ensures.visits inv.visits;
       counted = omega (arith, c.can_match_after.ensures.counted, inv.counted);
     }
@@ -64,7 +64,7 @@ returns-in_err-can_match_after-clause-room c = λ enough.
     let lt : i < length nfas = omega (arith, c.loop-slot-test.true, ap length same) in
     let is = subst (λ (ms : List NfaValue). m ≡ get_or ms i m) same c.automaton-item.is in
     let size = size_within nfas i m lt is in
-    absurd (true≢false (sym (c.in_err-can_match_after.ensures.memory (omega (arith, size, enough, c.loop-slot.invariant.kept)))))
+    absurd (true≢false (sym (c.in_err-can_match_after.ensures.memory (omega (arith, size, enough, c.loop-slot.invariant.kept.room)))))
 
 pub returns-clause-some : goal.returns-clause-some
 returns-clause-some c =
@@ -75,13 +75,13 @@ returns-clause-some c =
     )
 
 pub returns-in_err-can_match_after-clause-kept : goal.returns-in_err-can_match_after-clause-kept
-returns-in_err-can_match_after-clause-kept c = omega (arith, c.can_match_after.ensures.kept, c.loop-slot.invariant.kept)
+returns-in_err-can_match_after-clause-kept c = kept_twice c.loop-slot.invariant.kept c.can_match_after.ensures.kept
 
 pub returns-in_err-can_match_after-clause-counted : goal.returns-in_err-can_match_after-clause-counted
 returns-in_err-can_match_after-clause-counted c = omega (arith, c.can_match_after.ensures.counted, c.loop-slot.invariant.counted)
 
 pub returns-then-branch-clause-kept : goal.returns-then-branch-clause-kept
-returns-then-branch-clause-kept c = omega (arith, c.can_match_after.ensures.kept, c.loop-slot.invariant.kept)
+returns-then-branch-clause-kept c = kept_twice c.loop-slot.invariant.kept c.can_match_after.ensures.kept
 
 pub returns-then-branch-clause-counted : goal.returns-then-branch-clause-counted
 returns-then-branch-clause-counted c = omega (arith, c.can_match_after.ensures.counted, c.loop-slot.invariant.counted)
@@ -107,4 +107,4 @@ can_match_after-requires c =
     let same : c.deref-automaton-items.result.now ≡ nfas = c.deref-automaton-items.ensures.value ∙ ap (λ (e : ExtensionParts). e.nfas) c.self.view_is in
     let lt : i < length nfas = omega (arith, c.loop-slot-test.true, ap length same) in
     let is = subst (λ (ms : List NfaValue). m ≡ get_or ms i m) same c.automaton-item.is in
-    subst (λ cs. IsCacheAt cs i m) (sym c.loop-slot.invariant.caches) (subst (IsCacheAt c.args.caches.now i) (sym (is_at nfas i m lt is)) (c.requires i))
+    fits_still (i + 2) m c.loop-slot.invariant.kept (subst (Fits c.args.memory.now (i + 2)) (sym (is_at nfas i m lt is)) (c.requires i))

@@ -14,14 +14,8 @@ returns-in_default-clause-found c =
     let none : size m ≡ 0 = ap (λ o. size (nfa_at c.args.self.now.nfas o)) c.in_default.is in
     none_added m text c.args.marks.now (λ k. no_reached m text k none)
 
-pub returns-then-slot-len-clause-found : goal.returns-then-slot-len-clause-found
-returns-then-slot-len-clause-found c =
+pub returns-clause-found : goal.returns-clause-found
+returns-clause-found c =
     subst (λ m. OnOk c.find.result (AddsReached m (before_extension c.args.path.now) c.args.marks.now c.find.new.found))
     (c.automaton_at-automaton.ensures.automaton ∙ ap (nfa_at c.args.self.now.nfas) (sym c.in-Some.is))
     (subst (λ text. OnOk c.find.result (AddsReached c.automaton_at-automaton.result.now text c.args.marks.now c.find.new.found)) c.before_extension-text.ensures c.find.ensures.reached)
-
-pub returns-clause-found : goal.returns-clause-found
-returns-clause-found c =
-    subst (λ m. OnOk c.find-2.result (AddsReached m (before_extension c.args.path.now) c.args.marks.now c.find-2.new.found))
-    (c.automaton_at-automaton.ensures.automaton ∙ ap (nfa_at c.args.self.now.nfas) (sym c.in-Some.is))
-    (subst (λ text. OnOk c.find-2.result (AddsReached c.automaton_at-automaton.result.now text c.args.marks.now c.find-2.new.found)) c.before_extension-text.ensures c.find-2.ensures.reached)

@@ -14,14 +14,8 @@ returns-in_default-clause-some c =
     let none : size m ≡ 0 = ap (λ o. size (nfa_at c.args.self.now.nfas o)) c.in_default.is in
     none_matches m text (λ k. no_reached m text k none)
 
-pub returns-then-slot-len-clause-some : goal.returns-then-slot-len-clause-some
-returns-then-slot-len-clause-some c =
+pub returns-clause-some : goal.returns-clause-some
+returns-clause-some c =
     subst (λ m. IfOk c.is_match.result (λ yes. IsTrue yes ↔ ((k : ℕ) × IsReached m (before_extension c.args.path.now) k)))
     (c.automaton_at-automaton.ensures.automaton ∙ ap (nfa_at c.args.self.now.nfas) (sym c.in-Some.is))
     (subst (λ text. IfOk c.is_match.result (λ yes. IsTrue yes ↔ ((k : ℕ) × IsReached c.automaton_at-automaton.result.now text k))) c.before_extension-text.ensures c.is_match.ensures.some)
-
-pub returns-clause-some : goal.returns-clause-some
-returns-clause-some c =
-    subst (λ m. IfOk c.is_match-2.result (λ yes. IsTrue yes ↔ ((k : ℕ) × IsReached m (before_extension c.args.path.now) k)))
-    (c.automaton_at-automaton.ensures.automaton ∙ ap (nfa_at c.args.self.now.nfas) (sym c.in-Some.is))
-    (subst (λ text. IfOk c.is_match-2.result (λ yes. IsTrue yes ↔ ((k : ℕ) × IsReached c.automaton_at-automaton.result.now text k))) c.before_extension-text.ensures c.is_match-2.ensures.some)
