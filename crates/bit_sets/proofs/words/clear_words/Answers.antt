@@ -1,13 +1,7 @@
-use Rattle.std.proofs.Common.{◌/◌, inl, inr, refl, arith}
+use Rattle.std.proofs.Common.{◌/◌, inl, inr, arith}
 use Rattle.std.proofs.lemmas.Bool.{cases_lt}
 use Rattle.bit_sets.proofs.lemmas.Clearing.{cleared_limit, cleared_past, cleared_next, kept_next}
 use Rattle.bit_sets.proofs.words.clear_words.Goals as goal
-
-pub loop-place-init : goal.loop-place-init
-loop-place-init c = record {
-  cleared = λ k lt. absurd (omega arith);
-  kept = λ k le. refl;
-}
 
 pub loop-place-preserved : goal.loop-place-preserved
 loop-place-preserved c =

@@ -1,13 +1,10 @@
-use Rattle.std.proofs.Common.{◌≡◌, ◌++◌, not, ℕ, length, take, drop, ap, ◌∙◌, arith, rules}
+use Rattle.std.proofs.Common.{◌≡◌, ◌++◌, not, ℕ, length, take, drop, ◌∙◌, rules}
 use Rattle.std.specs.Prelude.{◌&&◌, ◌/◌}
 use Rattle.std.proofs.lemmas.List.{places}
 use Rattle.bit_sets.specs.Bits.{bit_of}
 use Rattle.bit_sets.proofs.lemmas.Summaries.{all_cleared}
 use Rattle.bit_sets.proofs.lemmas.FirstWord.{no_bits}
 use Rattle.bit_sets.proofs.index_set.IndexSet.clear.Goals as goal
-
-pub clear_words-requires : goal.clear_words-requires
-clear_words-requires c = omega (arith, c.args.self.now.summed.fits_too, ap length c.deref.ensures.value)
 
 pub returns-clause-none : goal.returns-clause-none
 returns-clause-none c =

@@ -1,14 +1,11 @@
-use Rattle.std.proofs.Common.{◌≡◌, ◌+◌, ◌<◌, ◌≤◌, ◌++◌, ◌∷◌, [], get_or, length, take, refl, sym, ap, ◌∙◌, arith, true≢false}
+use Rattle.std.proofs.Common.{◌≡◌, ◌+◌, ◌<◌, ◌≤◌, ◌++◌, ◌∷◌, [], get_or, length, take, sym, ap, ◌∙◌, arith, true≢false}
 use Rattle.std.proofs.lemmas.Bool.{cases_lt}
 use Rattle.std.proofs.lemmas.List.{take_more, take_all}
 use Rattle.std.proofs.Math.Logic.{⊎_elim}
 use Rattle.bit_sets.specs.Indexes.{index_capacity}
-use Rattle.bit_sets.proofs.lemmas.IndexSets.{also_none, also_then, also_put, also_left}
+use Rattle.bit_sets.proofs.lemmas.IndexSets.{also_then, also_put, also_left}
 use Rattle.bit_sets.proofs.index_set.IndexSet.put_all.Goals as goal
 use Rattle.bit_sets.proofs.index_set.IndexSet.put_all.Goals.{then-has_capacity_for, else-has_capacity_for}
-
-pub loop-index-init : goal.loop-index-init
-loop-index-init c = record { room = refl; has = also_none c.args.self.now c.args.self.now (λ k. refl) }
 
 pub loop-index-preserved : goal.loop-index-preserved
 loop-index-preserved c =

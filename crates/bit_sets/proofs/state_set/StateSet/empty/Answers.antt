@@ -14,6 +14,3 @@ invariant_of-result c =
         none = λ lt. refl;
       };
     }
-
-pub returns-clause-none : goal.returns-clause-none
-returns-clause-none c = λ k. rw c.new.ensures.items (bit_past [] k (omega arith))

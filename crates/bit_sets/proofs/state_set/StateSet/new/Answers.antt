@@ -5,12 +5,6 @@ use Rattle.bit_sets.specs.Bits.{bit_of}
 use Rattle.bit_sets.proofs.lemmas.Bits.{bit_zeros}
 use Rattle.bit_sets.proofs.state_set.StateSet.new.Goals as goal
 
-pub returns-clause-none : goal.returns-clause-none
-returns-clause-none c = λ s.
-    let zeros : c.resize.new.self.items ≡ replicate c.words_for.result 0 =
-    let e = c.in_ok-resize.ensures.items in simp (c.new-words.ensures.items, c.new-words.ensures.len, take-nil, sub-zero) at e in
-    rw zeros (bit_zeros c.words_for.result s)
-
 pub invariant_of-result : goal.invariant_of-result
 invariant_of-result c =
     let zeros : c.resize.new.self.items ≡ replicate c.words_for.result 0 =
