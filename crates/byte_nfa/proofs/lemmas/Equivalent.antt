@@ -1,5 +1,5 @@
 -- Bytes that states read alike lead to the same ends.
-use Rattle.std.proofs.Common.{◌≡◌, ℕ, zero, suc, get_or, length, [], ◌+◌, ◌<◌, Bool, true, false, true≢false, ◌||◌, List, ◌∷◌, IsTrue, arith, refl, ap, sym, subst, ◌∙◌, below_more}
+use Rattle.std.proofs.Common.{◌≡◌, ℕ, zero, suc, length, [], ◌+◌, ◌<◌, Bool, true, false, true≢false, ◌||◌, List, ◌∷◌, IsTrue, arith, refl, ap, sym, subst, ◌∙◌, below_more}
 use Rattle.std.specs.Prelude.{◌↔◌, IsFalse}
 use Rattle.bit_sets.specs.declared.byte_set.ByteSet.{ByteSet}
 use Rattle.bit_sets.specs.Bytes.{has_byte, differ, set_at}
@@ -54,11 +54,6 @@ module _ (a : List State) (k b c : ℕ) (z : List ℕ) (equivalent : AreEquivale
       by_stay s' c z w ts e (has_equivalent s' (loop_state w ts) w e (λ u. refl) (subst (λ u. IsTrue (has_byte w u)) same has)) (subst (Accepts a k s') others rest)
 
 -- where each set has both bytes or neither, each state reads both or neither
-
-pub set_read : (sets : List ByteSet) (n : ℕ) (d : ByteSet) → n < length sets → get_or sets n d ≡ set_at sets n
-set_read [] n d lt = absurd (omega arith)
-set_read (x ∷ xs) zero d lt = refl
-set_read (x ∷ xs) (suc n) d lt = set_read xs n d (omega arith)
 
 module _ (sets : List ByteSet) (targets : List ℕ) (a b : ℕ) (alike : (n : ℕ) → n < length sets → has_byte (set_at sets n) a ≡ has_byte (set_at sets n) b) where
   alike_state : (x : declared.State) → IsHeld sets targets x → reads_byte (of_state sets targets x) a ≡ reads_byte (of_state sets targets x) b

@@ -8,17 +8,9 @@ use Rattle.bit_sets.specs.Numbers.{AreBelow, has_number}
 use Rattle.byte_nfa.specs.Runs.{size}
 use Rattle.byte_nfa.specs.inner.Pass.{names, AcceptsNow}
 use Rattle.byte_nfa.proofs.lemmas.Pass.{listed_in, in_listed, listed_below, or_first}
-use Rattle.bit_sets.specs.Bytes.{set_at}
 use Rattle.byte_nfa.specs.inner.Views.{of_state, of_states, IsHeld, AreHeld, NamesBelow, nfa}
 use Rattle.bit_sets.specs.declared.byte_set.ByteSet.{ByteSet}
 use Rattle.byte_nfa.specs.declared.state.State as declared
-use Rattle.byte_nfa.specs.declared.state.State.TheVariants.{Bytes, Union, Loop, Match}
-
--- a set that is read from the sets
-pub set_is : (sets : List ByteSet) (n : ℕ) (set : ByteSet) → n < length sets → set ≡ get_or sets n set → set ≡ set_at sets n
-set_is [] n set lt e = absurd (omega arith)
-set_is (x ∷ xs) zero set lt e = e
-set_is (x ∷ xs) (suc n) set lt e = set_is xs n set (omega arith) e
 
 pub held_at : (sets : List ByteSet) (targets : List ℕ) (xs : List declared.State) (s : ℕ) (x : declared.State) → AreHeld sets targets xs → s < length xs → x ≡ get_or xs s x → IsHeld sets targets x
 held_at sets targets [] s x h lt e = absurd (omega arith)
@@ -67,13 +59,6 @@ item_at sets targets (y ∷ ys) (suc s) d lt = item_at sets targets ys s d (omeg
 pub read_item : (m : NfaValue) (sets : List ByteSet) (targets : List ℕ) (xs : List declared.State) (starts : List ℕ) (n s : ℕ) (d : declared.State)
     → nfa sets targets xs starts n ≡ m → s < length xs → state m.states s ≡ of_state sets targets (get_or xs s d)
 read_item m sets targets xs starts n s d value lt = sym (ap (λ (o : NfaValue). state o.states s) value) ∙ item_at sets targets xs s d lt
-
--- a state that contracts see as an end is one
-pub is_end : (sets : List ByteSet) (targets : List ℕ) (x : declared.State) (k : ℕ) → of_state sets targets x ≡ match_state k → x ≡ Match k
-is_end sets targets (Bytes w t) k e = cc
-is_end sets targets (Union at) k e = cc
-is_end sets targets (Loop w t) k e = cc
-is_end sets targets (Match j) k e = cc
 
 -- what is told of a state that is left
 pub follows_epsilons : (o : Option ℕ) (n : ℕ) (st st' : State) → st ≡ st' → NamesBelow n st

@@ -85,13 +85,7 @@ room_swapped x y a b m first second same = omega arith
 pub below_all : (n : ℕ) (P : List ℕ → ℕ → Type 0) → ((k : ℕ) → P [] k → k < n + n) → ((i : ℕ) × (0 ≤ i) × P [] i) ↔ ((k : ℕ) × (k < n + n) × P [] k)
 below_all n P below = (λ (k, le, h). (k, below k h, h), λ (k, low, h). (k, omega arith, h))
 
--- what is counted: nothing in addition, nothing at all, one state's step more, and one count after another
-pub counted_same : (set : ℕ → Bool) (n : ℕ) → AreCounted set set n n
-counted_same set n = ([], omega arith, λ t h. h)
-
-pub counted_none : (set : ℕ → Bool) (n : ℕ) → ((t : ℕ) → set t ≡ false) → AreCounted (λ _. false) set n n
-counted_none set n none = ([], omega arith, λ t h. sym (none t) ∙ h)
-
+-- what is counted: one state's step more, and one count after another
 in_more : (p q r s t : Bool) → (IsTrue p → IsTrue q) → IsTrue (p || r) → (IsTrue r → IsTrue (s || t)) → IsTrue ((q || s) || t)
 in_more p true r s t up h f = refl
 in_more true false r s t up h f = absurd (true≢false (sym (up refl)))
@@ -132,9 +126,3 @@ in_listed_too false q h = absurd (true≢false (sym h))
 
 pub counted_anew : (old now new : ℕ → Bool) (a b c : ℕ) → AreCounted old now a b → AreCounted (λ _. false) new b c → AreCounted old new a c
 counted_anew old now new a b c (xs, le, first) (ys, le', second) = (ys, omega (arith, le, le'), λ t h. in_listed_too (has_number t ys) (old t) (second t h))
-
-pub counted_up : (old new : ℕ → Bool) (a b : ℕ) → AreCounted old new a b → a ≤ b
-counted_up old new a b (xs, le, more) = omega (arith, le)
-
-pub counted_past : (old now new : ℕ → Bool) (a b c : ℕ) → AreCounted old now a b → AreCounted (λ _. false) new b c → a ≤ c
-counted_past old now new a b c (xs, le, first) (ys, le', second) = omega (arith, le, le')

@@ -1,4 +1,4 @@
-use Rattle.std.proofs.Common.{slice_index, true≢false, refl, sym, ap, ◌∙◌, arith, below_more}
+use Rattle.std.proofs.Common.{slice_index, true≢false, refl, sym, ap, ◌∙◌, arith}
 use Rattle.bit_sets.specs.StateSets.{has_state}
 use Rattle.byte_nfa.proofs.lemmas.Accepting.{listed_at, listed_place}
 use Rattle.byte_nfa.proofs.state.has_any.Goals as goal
@@ -8,9 +8,6 @@ returns-then-is_in c =
     let states = c.args.states.now in
     let i = c.loop-state.state-index in
     (λ _. (slice_index states i, listed_at states i c.loop-state-test.true, sym c.is_in.ensures ∙ c.if-is_in.true), λ _. refl)
-
-pub loop-state-preserved : goal.loop-state-preserved
-loop-state-preserved c = below_more _ _ c.loop-state.invariant (sym c.is_in.ensures ∙ c.if-is_in.false)
 
 pub returns : goal.returns
 returns c = (

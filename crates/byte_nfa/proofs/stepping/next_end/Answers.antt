@@ -2,20 +2,9 @@ use Rattle.std.proofs.Common.{◌∷◌, None, false, refl, sym, ◌∙◌, arit
 use Rattle.bit_sets.specs.StateSets.{has_state}
 use Rattle.byte_nfa.specs.Steps.{state}
 use Rattle.byte_nfa.proofs.lemmas.Pass.{iff_trans, read_taken, rest_passed, quiet_step, iff_sym}
-use Rattle.byte_nfa.proofs.lemmas.Stepping.{no_end_is, no_end_more, ends_passed, end_taken, counted_same, counted_taken}
+use Rattle.byte_nfa.proofs.lemmas.Stepping.{no_end_is, no_end_more, ends_passed, end_taken, counted_taken}
 use Rattle.byte_nfa.specs.inner.Stepping.{EndsBelow}
 use Rattle.byte_nfa.proofs.stepping.next_end.Goals as goal
-
-pub loop-s-init : goal.loop-s-init
-loop-s-init c = record {
-  within = omega arith;
-  from_capacity = refl;
-  to_capacity = refl;
-  steps = λ b y k is. (λ h. h, λ h. h);
-  ends = λ i le. (λ h. h, λ h. h);
-  visits = omega arith;
-  counted = counted_same (has_state c.args.to.now) c.args.visits.now;
-}
 
 pub loop-s-preserved : goal.loop-s-preserved
 loop-s-preserved c =

@@ -4,7 +4,7 @@ use Rattle.bit_sets.specs.StateSets.{has_state, state_capacity}
 use Rattle.byte_nfa.specs.Runs.{AcceptsFrom}
 use Rattle.byte_nfa.proofs.lemmas.Pass.{iff_trans}
 use Rattle.byte_nfa.proofs.lemmas.Finding.{at_quiet, at_dead}
-use Rattle.byte_nfa.proofs.lemmas.Stepping.{decides_some, none_decided, dead_step, room_swapped, counted_anew, counted_up, counted_past}
+use Rattle.byte_nfa.proofs.lemmas.Stepping.{decides_some, none_decided, dead_step, room_swapped, counted_anew}
 use Rattle.byte_nfa.specs.EarlyMatches.{half}
 use Rattle.byte_nfa.proofs.stepping.read.Goals as goal
 
@@ -67,21 +67,3 @@ pub returns-clause-led : goal.returns-clause-led
 returns-clause-led c = λ z k.
     let past : drop c.loop-byte.byte-index c.args.text.now ≡ [] = drop_all c.loop-byte.byte-index c.args.text.now (omega arith) in
     rw past at c.loop-byte.invariant.runs z k
-
-pub returns-then-has_end-clause-counted : goal.returns-then-has_end-clause-counted
-returns-then-has_end-clause-counted c = counted_past (has_state c.args.from.now) (has_state c.loop-byte.from) (has_state c.has_end.new.to) _ _ _ c.loop-byte.invariant.counted c.has_end.ensures.counted
-
-pub returns-then-has_end-clause-led_counted : goal.returns-then-has_end-clause-led_counted
-returns-then-has_end-clause-led_counted c = counted_past (has_state c.args.from.now) (has_state c.loop-byte.from) (has_state c.has_end.new.to) _ _ _ c.loop-byte.invariant.counted c.has_end.ensures.counted
-
-pub returns-then-is_empty-clause-counted : goal.returns-then-is_empty-clause-counted
-returns-then-is_empty-clause-counted c = counted_past (has_state c.args.from.now) (has_state c.loop-byte.from) (has_state c.has_end.new.to) _ _ _ c.loop-byte.invariant.counted c.has_end.ensures.counted
-
-pub returns-then-is_empty-clause-led_counted : goal.returns-then-is_empty-clause-led_counted
-returns-then-is_empty-clause-led_counted c = counted_past (has_state c.args.from.now) (has_state c.loop-byte.from) (has_state c.has_end.new.to) _ _ _ c.loop-byte.invariant.counted c.has_end.ensures.counted
-
-pub returns-clause-led_counted : goal.returns-clause-led_counted
-returns-clause-led_counted c = c.loop-byte.invariant.counted
-
-pub returns-clause-counted : goal.returns-clause-counted
-returns-clause-counted c = counted_up (has_state c.args.from.now) (has_state c.loop-byte.from) _ _ c.loop-byte.invariant.counted

@@ -5,7 +5,7 @@ use Rattle.bit_sets.specs.StateSets.{has_state, state_capacity}
 use Rattle.byte_nfa.specs.Runs.{AcceptsFrom}
 use Rattle.byte_nfa.proofs.lemmas.Pass.{iff_trans, iff_sym}
 use Rattle.byte_nfa.proofs.lemmas.Finding.{iff_beside, at_dead, told_found}
-use Rattle.byte_nfa.proofs.lemmas.Stepping.{dead_step, room_swapped, counted_anew, counted_up, counted_past}
+use Rattle.byte_nfa.proofs.lemmas.Stepping.{dead_step, room_swapped, counted_anew}
 use Rattle.byte_nfa.proofs.lemmas.Told.{told_decided}
 use Rattle.byte_nfa.specs.EarlyMatches.{half}
 use Rattle.byte_nfa.proofs.stepping.run.Goals as goal
@@ -56,9 +56,3 @@ returns-clause-found c = λ _ z k.
 
 pub returns-then-is_empty-clause-led_counted : goal.returns-then-is_empty-clause-led_counted
 returns-then-is_empty-clause-led_counted c = rw c.swap.ensures.x_after (counted_anew (has_state c.args.from.now) (has_state c.loop-byte.from) (has_state c.step.new.to) _ _ _ c.loop-byte.invariant.counted c.step.ensures.counted)
-
-pub returns-then-is_empty-clause-counted : goal.returns-then-is_empty-clause-counted
-returns-then-is_empty-clause-counted c = counted_past (has_state c.args.from.now) (has_state c.loop-byte.from) (has_state c.step.new.to) _ _ _ c.loop-byte.invariant.counted c.step.ensures.counted
-
-pub returns-clause-counted : goal.returns-clause-counted
-returns-clause-counted c = counted_up (has_state c.args.from.now) (has_state c.loop-byte.from) _ _ c.loop-byte.invariant.counted

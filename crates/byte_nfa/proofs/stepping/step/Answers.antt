@@ -1,27 +1,13 @@
-use Rattle.std.proofs.Common.{◌+◌, ◌<◌, [], false, refl, ◌∙◌, arith}
+use Rattle.std.proofs.Common.{◌+◌, ◌<◌, [], false, ◌∙◌, arith}
 use Rattle.std.proofs.Math.Logic.{⊎_elim}
 use Rattle.bit_sets.specs.Indexes.{has_index}
 use Rattle.bit_sets.specs.StateSets.{has_state}
 use Rattle.byte_nfa.proofs.lemmas.Pass.{iff_trans}
-use Rattle.byte_nfa.proofs.lemmas.Stepping.{step_begun, step_done, none_below, counted_none, counted_then}
+use Rattle.byte_nfa.proofs.lemmas.Stepping.{step_done, none_below, counted_then}
 use Rattle.byte_nfa.proofs.lemmas.Told.{told_more, told_all}
 use Rattle.byte_nfa.specs.EarlyMatches.{half}
 use Rattle.byte_nfa.specs.inner.Stepping.{EndsBelow}
 use Rattle.byte_nfa.proofs.stepping.step.Goals as goal
-
-pub loop-index-init : goal.loop-index-init
-loop-index-init c =
-    let m = c.args.automaton.now in
-    rw c.state_count-limit.ensures record {
-      within = omega arith;
-      from_capacity = refl;
-      to_capacity = c.clear.ensures.room;
-      room = refl;
-      steps = λ b y k is. step_begun m c.args.from.now c.clear.new.self b y k c.clear.ensures.none;
-      told = λ k. (λ h. h, λ h. h);
-      visits = omega arith;
-      counted = counted_none (has_state c.clear.new.self) c.args.visits.now c.clear.ensures.none;
-    }
 
 pub loop-index-preserved : goal.loop-index-preserved
 loop-index-preserved c =

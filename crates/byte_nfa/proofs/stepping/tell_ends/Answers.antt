@@ -1,11 +1,10 @@
-use Rattle.std.proofs.Common.{◌≡◌, ℕ, ◌+◌, ◌<◌, ◌≤◌, ◌⊎◌, inl, inr, Bool, false, Some, IsTrue, true≢false, refl, ap, sym, subst, arith, ◌∙◌}
+use Rattle.std.proofs.Common.{◌≡◌, ℕ, ◌+◌, ◌<◌, ◌≤◌, ◌⊎◌, inl, inr, Bool, false, Some, IsTrue, true≢false, ap, sym, subst, arith, ◌∙◌}
 use Rattle.std.specs.Prelude.{◌↔◌}
 use Rattle.std.proofs.lemmas.Bool.{cases_lt}
 use Rattle.std.proofs.Math.Logic.{⊎_elim}
 use Rattle.bit_sets.specs.Indexes.{has_index}
 use Rattle.byte_nfa.proofs.lemmas.Pass.{iff_trans}
-use Rattle.byte_nfa.proofs.lemmas.Finding.{iff_beside}
-use Rattle.byte_nfa.proofs.lemmas.Told.{told_same, told_more, told_all}
+use Rattle.byte_nfa.proofs.lemmas.Told.{told_more}
 use Rattle.byte_nfa.proofs.stepping.tell_ends.Goals as goal
 
 -- the next index of a set, and those after it
@@ -16,13 +15,6 @@ next_of set at index j low has between = (there, ⊎_elim {C = (at ≤ j) × IsT
     there : (at ≤ j) × IsTrue (set j) → ((index + 1 ≤ j) × IsTrue (set j)) ⊎ (Some index ≡ Some j)
     there (le, on) = ⊎_elim {C = ((index + 1 ≤ j) × IsTrue (set j)) ⊎ (Some index ≡ Some j)} (λ under. absurd (true≢false (sym on ∙ between j le under)))
         (λ over. ⊎_elim {C = ((index + 1 ≤ j) × IsTrue (set j)) ⊎ (Some index ≡ Some j)} (λ above. inl (omega arith, on)) (λ not. let same : index ≡ j = omega arith in inr (ap Some same)) (cases_lt index j)) (cases_lt j index)
-
-pub loop-index-init : goal.loop-index-init
-loop-index-init c = record {
-  low = omega arith;
-  room = refl;
-  has = λ k. iff_beside (told_same c.args.half (λ i. IsTrue (has_index c.args.ends.now i)) c.args.lowest k _ (λ j le lt. (λ on. (le, on), λ (from, on). on)));
-}
 
 pub loop-index-preserved : goal.loop-index-preserved
 loop-index-preserved c =
@@ -36,7 +28,3 @@ loop-index-preserved c =
       has = λ k. iff_trans (inv.has k) (told_more c.args.half (λ i. (at ≤ i) × IsTrue (set i)) c.args.lowest k (has_index c.loop-index.into k) _ c.in-Some.index c.told_by.result (has_index c.put.new.self k)
           (λ j le. next_of set at c.in-Some.index j low has between) (omega (arith, low, inv.low)) high c.told_by.ensures (c.put.ensures.has k));
     }
-
-pub returns-clause-has : goal.returns-clause-has
-returns-clause-has c = λ k. told_all c.args.half (λ i. (c.loop-index.at ≤ i) × IsTrue (has_index c.args.ends.now i)) c.args.lowest k (has_index c.loop-index.into k)
-    (λ j le lt (from, on). true≢false (sym on ∙ c.in_default.ensures j from lt)) (c.loop-index.invariant.has k)

@@ -2,7 +2,7 @@ use Rattle.std.proofs.Common.{◌<◌, length, arith, ap, subst}
 use Rattle.std.proofs.lemmas.List.{length-map}
 use Rattle.byte_nfa.specs.Runs.{size}
 use Rattle.byte_nfa.specs.inner.Views.{GoesBelow, of_state}
-use Rattle.byte_nfa.proofs.lemmas.Reading.{held_at, state_at, read_state}
+use Rattle.byte_nfa.proofs.lemmas.Reading.{held_at, state_at}
 use Rattle.byte_nfa.proofs.nfa.Nfa.add_last_bytes.Goals as goal
 
 pub add_last_bytes-requires-clause-below : goal.add_last_bytes-requires-clause-below
@@ -16,12 +16,3 @@ add_last_bytes-requires-clause-below c =
       held_at sets targets states c.args.s c.index.result.now c.self.invariant.held lt c.index.ensures,
       subst (GoesBelow c.args.s) (state_at sets targets states c.args.s c.index.result.now lt c.index.ensures) (c.self.invariant.down c.args.s),
     )
-
-pub returns-clause-last : goal.returns-clause-last
-returns-clause-last c =
-    let inside = c.self.inside in
-    let sets = inside.sets.items in
-    let targets = inside.targets.items in
-    let states = inside.states.items in
-    let lt : c.args.s < length states = omega (arith, c.requires.exists, ap size c.self.view_is, length-map states (of_state sets targets)) in
-    rw (read_state c.args.self.now sets targets states inside.starts.items inside.index_count c.args.s c.index.result.now c.self.view_is lt c.index.ensures) (rw c.deref.ensures.value at c.add_last_bytes.ensures.last targets)

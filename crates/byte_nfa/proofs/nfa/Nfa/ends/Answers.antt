@@ -1,9 +1,8 @@
-use Rattle.std.proofs.Common.{[], false, arith, ◌∙◌, refl}
+use Rattle.std.proofs.Common.{[], false, arith, ◌∙◌}
 use Rattle.bit_sets.specs.Indexes.{has_index}
 use Rattle.bit_sets.specs.StateSets.{has_state}
 use Rattle.byte_nfa.specs.Steps.{state}
-use Rattle.byte_nfa.specs.Runs.{size}
-use Rattle.byte_nfa.proofs.lemmas.Pass.{iff_trans, some_found, read_taken, rest_passed, stays_at_end, names_it, names_none, last_position}
+use Rattle.byte_nfa.proofs.lemmas.Pass.{iff_trans, read_taken, stays_at_end, names_it, names_none}
 use Rattle.byte_nfa.proofs.nfa.Nfa.ends.Goals as goal
 use Rattle.byte_nfa.proofs.nfa.Nfa.ends.Goals.{in-Some-follow_epsilons, in_default-follow_epsilons}
 
@@ -34,18 +33,3 @@ loop-s-preserved c =
             (λ t. names_none st t (old t) (w.in_default-follow_epsilons.ensures.end t)));
       }
     ]
-
-pub loop-s-init : goal.loop-s-init
-loop-s-init c = record {
-  within = omega (arith, c.state_count-limit.ensures);
-  from_capacity = refl;
-  into_capacity = refl;
-  holds = λ k. let start = some_found c.args.self.now.states (size c.args.self.now) (has_state c.args.from.now) (λ _. false) (has_index c.args.into.now) k (λ _. refl) in
-      rw c.state_count-limit.ensures (start.0, start.1);
-}
-
-pub returns-clause-ends : goal.returns-clause-ends
-returns-clause-ends c = λ k.
-    let whole = iff_trans (c.loop-s.invariant.holds k) (iff_trans (rest_passed c.args.self.now.states c.loop-s.limit k [] (has_state c.loop-s.from) (λ _. false) (has_index c.loop-s.into) c.in_default.ensures.found)
-    (last_position c.args.self.now.states (has_state c.loop-s.from) (λ _. false) (has_index c.loop-s.into) k)) in
-    (whole.1, whole.0)

@@ -1,6 +1,5 @@
-use Rattle.std.proofs.Common.{◌≡◌, ℕ, ◌<◌, length, arith, subst}
-use Rattle.byte_nfa.specs.Steps.{NfaValue, state, match_state}
-use Rattle.byte_nfa.specs.inner.Views.{IsHeld, NamesBelow}
+use Rattle.std.proofs.Common.{◌<◌, length, arith, subst}
+use Rattle.byte_nfa.specs.inner.Views.{IsHeld}
 use Rattle.byte_nfa.proofs.lemmas.Reading.{held_at}
 use Rattle.byte_nfa.proofs.nfa.Nfa.state.Goals as goal
 
@@ -30,7 +29,3 @@ set_of-requires-in-Loop c =
     let states = inside.states.items in
     let lt : c.args.s < length states = omega (arith, inside.states.ok.0) in
     rw c.deref-in-Loop.ensures.value (subst (IsHeld sets targets) c.in-Loop.is (held_at sets targets states c.args.s c.index.result.now c.self.invariant.held lt c.index.ensures))
-
-pub returns-clause-named : goal.returns-clause-named
-returns-clause-named c = subst (λ (o : NfaValue). (k : ℕ) → state o.states c.args.s ≡ match_state k → k < o.index_count) c.self.view_is
-    (λ k is. subst (NamesBelow c.self.inside.index_count) is (c.self.invariant.named c.args.s))

@@ -1,4 +1,4 @@
-use Rattle.std.proofs.Common.{◌≡◌, ℕ, ◌+◌, ◌*◌, ◌<◌, [], ◌∷◌, ◌++◌, length, arith, ap, sym, subst, ◌∙◌}
+use Rattle.std.proofs.Common.{◌≡◌, ℕ, ◌+◌, ◌*◌, [], ◌∷◌, ◌++◌, length, arith, ap, sym, subst, ◌∙◌}
 use Rattle.std.proofs.lemmas.List.{length-map}
 use Rattle.byte_nfa.specs.Steps.{NfaValue, state}
 use Rattle.byte_nfa.specs.Runs.{size}
@@ -23,18 +23,6 @@ from_parts-requires c =
       named = inv.sound.named;
       begun = begun;
     }
-
-pub loop-s-init : goal.loop-s-init
-loop-s-init c = record {
-  len = ap length c.in_ok-states.ensures.items;
-  sound = rw c.in_ok-states.ensures.items record {
-    held = tt;
-    down = λ s i lt. absurd (omega arith);
-    named = λ s. tt;
-    begun = λ i lt. absurd (omega arith);
-  };
-  states = λ s lt. absurd (omega arith);
-}
 
 pub loop-s-preserved : goal.loop-s-preserved
 loop-s-preserved c =
@@ -69,9 +57,6 @@ returns c =
     (ap (λ (o : NfaValue). o.starts) c.self.view_is) len (λ s lt. inv.states s (omega (arith, inv.len)))
     (subst (λ (o : NfaValue). (s : ℕ) → NamesBelow o.index_count (state o.states s)) c.self.view_is c.self.invariant.named)
 
-pub overflow_add-state : goal.overflow_add-state
-overflow_add-state c = omega (arith, c.in-Some.ensures.0, c.in-Some-early_match.ensures.1, ap (λ (m : NfaValue). m.index_count) c.self.view_is)
-
 pub early_match-requires : goal.early_match-requires
 early_match-requires c =
     let inside = c.self.inside in
@@ -85,11 +70,3 @@ early_match-requires c =
       len = omega (arith, inv.len);
       below = tell_decisions m sets targets inside.states.items inside.starts.items inside.index_count c.self.view_is c.self.invariant c.loop-s.states.items c.loop-s.s so_far;
     }
-
-pub index-requires : goal.index-requires
-index-requires c = rw c.len-s-end.ensures at c.loop-s-test.true
-
-pub returns-in_default : goal.returns-in_default
-returns-in_default c =
-    let past : c.self.inside.index_count * 2 < 18446744073709551616 → ⊥ = c.in_default.ensures in
-    omega (arith, past, ap (λ (m : NfaValue). m.index_count) c.self.view_is)
