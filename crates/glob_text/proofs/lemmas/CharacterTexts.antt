@@ -1,5 +1,5 @@
 -- The texts of whole characters: their bytes, and what they denote, row by row.
-use Rattle.std.proofs.Common.{◌≡◌, ℕ, ◌+◌, ◌*◌, ◌≤◌, inr, Bool, true, false, not, ◌&&◌, List, [], ◌∷◌, ◌++◌, IsTrue, refl, ap, sym, ◌∙◌, arith, append_assoc}
+use Rattle.std.proofs.Common.{◌≡◌, ℕ, ◌+◌, ◌*◌, ◌≤◌, inr, Bool, true, false, not, ◌&&◌, List, [], ◌∷◌, ◌++◌, IsTrue, refl, arith}
 use Rattle.std.specs.Prelude.{◌==◌, codes}
 use Rattle.std.proofs.lemmas.Bool.Decides.{nat_tests}
 use Rattle.glob_syntax.specs.declared.options.Options.{Options}
@@ -7,7 +7,6 @@ use Rattle.glob_syntax.specs.Characters.{is_between, is_character}
 use Rattle.glob_syntax.specs.TokenMatches.{is_wild_character, slash}
 use Rattle.glob_syntax.specs.inner.CharacterRows.{continues, is_ascii_wild}
 use Rattle.glob_syntax.proofs.lemmas.Characters.{some_row, none_left_out, ascii_left_out}
-use Rattle.glob_text.specs.RegexText.{others_text, group_text, ascii_text, longer_texts}
 use Rattle.glob_text.specs.SmallRegex.{span, SpellsByte, is_hexadecimal, hexadecimal_value, is_same, folded_entries_have}
 
 -- a byte as two digits
@@ -57,13 +56,3 @@ regex_rows_are o (b ∷ c ∷ []) = none_left_out (is_character (b ∷ c ∷ [])
 regex_rows_are o (b ∷ c ∷ d ∷ []) = none_left_out (is_character (b ∷ c ∷ d ∷ [])) o.literal_separator
 regex_rows_are o (b ∷ c ∷ d ∷ e ∷ []) = none_left_out (is_character (b ∷ c ∷ d ∷ e ∷ [])) o.literal_separator
 regex_rows_are o (b ∷ c ∷ d ∷ e ∷ f ∷ fs) = refl
-
--- ---- writing
-
--- the text is written in two parts
-pub character_written : (o : Options) (old mid new : List ℕ) → mid ≡ old ++ (codes "(?:" ++ ascii_text o) → new ≡ mid ++ (others_text longer_texts ++ codes ")")
-    → new ≡ old ++ group_text (ascii_text o ∷ longer_texts)
-character_written o old mid new first second =
-    let rest = others_text longer_texts ++ codes ")" in
-    second ∙ ap (λ l. l ++ rest) first ∙ append_assoc old (codes "(?:" ++ ascii_text o) rest
-    ∙ ap (λ l. old ++ l) (sym (append_assoc (codes "(?:" ++ ascii_text o) (others_text longer_texts) (codes ")")))

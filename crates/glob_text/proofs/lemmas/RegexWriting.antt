@@ -1,11 +1,8 @@
 -- The steps of writing a text, token by token.
 use Rattle.std.proofs.Common.{◌≡◌, ℕ, suc, ◌+◌, ◌<◌, ◌≤◌, Bool, true, false, not, ◌&&◌, ◌||◌, List, [], ◌∷◌, ◌++◌, length, take, slice_index, arith, refl, ap, subst, ◌∙◌}
-use Rattle.std.specs.String.Boundary.{IsSplitPoint}
 use Rattle.std.proofs.lemmas.List.{append_assoc, append-nil, get_or_append_left, get_or-take, take-append-le, take-take, length-take, length-append, get_or-append-add}
 use Rattle.std.proofs.Math.Seq.{take-append_seam}
 use Rattle.glob_syntax.specs.declared.options.Options.{Options}
-use Rattle.glob_syntax.specs.declared.token.Token as held
-use Rattle.glob_syntax.specs.declared.token.Token.TheVariants as held_tokens
 use Rattle.glob_syntax.specs.Token.{Token, Group, Tokens, and_then, Branches, none, branch}
 use Rattle.glob_syntax.specs.Reading.{Levels, in_level, open_level, next_branch, close_level}
 use Rattle.glob_syntax.specs.FlatTokens.{Flat, simple, opening, comma, closing, all_levels, levels_of, IsSimple}
@@ -174,9 +171,6 @@ place_opened : (text : List ℕ) (n b u : Bool) (g : OpenGroup) (gs : List OpenG
 place_opened text n b u g gs at first outer h =
     let e : take g.len (text ++ opener n) ≡ text = rw at (take-append_seam text (opener n)) in
     rw (e, first, outer, places_append text (opener n) (length text) gs (omega arith) h) refl
-
-pub splits_at_group : (text : List ℕ) (g : OpenGroup) (gs : List OpenGroup) → AreCuts text (length text) (g ∷ gs) → IsSplitPoint text g.len
-splits_at_group text g gs (lt, ascii, h) = (omega arith, λ positive below continued. absurd (omega arith))
 
 -- ---- the steps of the loop
 

@@ -6,39 +6,10 @@ use Rattle.glob_syntax.specs.Views.{flat_of, flats, tokens_of}
 use Rattle.glob_text.specs.RegexText.{tokens_text}
 use Rattle.glob_text.specs.inner.RegexWriting.{Writes}
 use Rattle.glob_text.specs.declared.regex_text.OpenGroup.{OpenGroup}
-use Rattle.glob_text.proofs.lemmas.RegexWriting.{splits_at_group, writes_simple, writes_open, writes_comma, writes_close}
+use Rattle.glob_text.proofs.lemmas.RegexWriting.{writes_simple, writes_open, writes_comma, writes_close}
 use Rattle.glob_syntax.proofs.lemmas.TokenLists.{not_blank}
 use Rattle.glob_text.proofs.regex_text.push_each.Goals as goal
 use Rattle.glob_text.proofs.regex_text.push_each.Goals.{in-Open+in_ok-start_branch-in-Open, in-Comma+in-Some+in_ok-start_branch-in-Comma, in-Close+in-Some-pop+in_ok-kept-in-Close, in_default+in_ok-push_simple-in_default}
-
-pub loop-token-init : goal.loop-token-init
-loop-token-init c = rw c.requires.none record { same = refl; cuts = tt; nested = c.requires.nested }
-
-pub bounds-tokens-token-index : goal.bounds-tokens-token-index
-bounds-tokens-token-index c = c.loop-token-test.true
-
-pub start_branch-requires : goal.start_branch-requires
-start_branch-requires c = tt
-
-pub end_branch-first-requires : goal.end_branch-first-requires
-end_branch-first-requires c =
-    let group = c.in-Some.group in
-    let rest = c.pop.new.self.items in
-    let around : c.loop-token.groups.items ≡ rest ++ group ∷ [] = rw c.in-Some.is at c.pop.ensures.items in
-    splits_at_group (string_bytes c.loop-token.text) group (reverse rest) (rw (around, reverse-append) at c.loop-token.invariant.cuts)
-
-pub start_branch-requires-in-Comma : goal.start_branch-requires-in-Comma
-start_branch-requires-in-Comma c = tt
-
-pub end_branch-none-requires : goal.end_branch-none-requires
-end_branch-none-requires c =
-    let group = c.in-Some-pop.group in
-    let rest = c.pop-in-Close.new.self.items in
-    let around : c.loop-token.groups.items ≡ rest ++ group ∷ [] = rw c.in-Some-pop.is at c.pop-in-Close.ensures.items in
-    splits_at_group (string_bytes c.loop-token.text) group (reverse rest) (rw (around, reverse-append) at c.loop-token.invariant.cuts)
-
-pub end_group-requires : goal.end_group-requires
-end_group-requires c = tt
 
 pub loop-token-preserved : goal.loop-token-preserved
 loop-token-preserved c =
