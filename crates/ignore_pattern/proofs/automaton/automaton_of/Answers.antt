@@ -29,12 +29,6 @@ exit c =
       | else-is_negated w ↦ exit_below m c.if-is_negated.exit c.in_ok-below.below n negated false w.exit-is (sym c.is_negated.ensures ∙ w.if-is_negated.false) c.loop-index.invariant.below
     ]
 
-pub push_pattern-requires-clause-index : goal.push_pattern-requires-clause-index
-push_pattern-requires-clause-index c = omega (arith, c.loop-index.invariant.count, c.loop-index-test.true)
-
-pub push_pattern-requires-clause-below : goal.push_pattern-requires-clause-below
-push_pattern-requires-clause-below c = (exit (goal.at.push_pattern-requires-clause-below c).Joined-is_negated).within
-
 pub loop-index-preserved : goal.loop-index-preserved
 loop-index-preserved c =
     let inv = c.loop-index.invariant in

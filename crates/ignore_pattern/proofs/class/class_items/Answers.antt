@@ -2,11 +2,8 @@ use Rattle.std.proofs.Common.{zero, true, None, ◌==◌, sym, ap, ◌∙◌, ar
 use Rattle.std.specs.List.{position}
 use Rattle.ignore_pattern.specs.Classes.{class_items}
 use Rattle.bit_sets.proofs.lemmas.Cuts.{head_cell}
-use Rattle.ignore_pattern.proofs.lemmas.Classes.{starts, ends, closed, unreadable, goes_on}
+use Rattle.ignore_pattern.proofs.lemmas.Classes.{ends, closed, unreadable, goes_on}
 use Rattle.ignore_pattern.proofs.class.class_items.Goals as goal
-
-pub loop-rest-init : goal.loop-rest-init
-loop-rest-init c = record { reads = rw c.new-items.ensures.items (starts c.args.cs.now); closer = c.first_closer-closer.ensures }
 
 pub returns-then-closes-clause-value : goal.returns-then-closes-clause-value
 returns-then-closes-clause-value c =
