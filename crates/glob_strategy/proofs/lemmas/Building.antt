@@ -25,12 +25,6 @@ text_more o b bs old mid new w s t e rest kept p letter = λ a agrees.
 pub row_one : (test : ℕ → Bool) (old new : NfaValue) (w : ByteSet) (s e : ℕ) → Pushes old new s (bytes_state w e) → IsSetOf test w → BuildsRow (test ∷ []) old.states new.states s e
 row_one test old new w s e p set = λ a agrees. (e, (w, p.adds a (length old.states) (omega arith) agrees, set), refl)
 
--- one more state, before the others
-pub row_more : (test : ℕ → Bool) (tests : List (ℕ → Bool)) (old mid new : NfaValue) (w : ByteSet) (s t e : ℕ)
-    → BuildsRow tests old.states mid.states t e → Keeps old.states mid.states → Pushes mid new s (bytes_state w t) → IsSetOf test w → BuildsRow (test ∷ tests) old.states new.states s e
-row_more test tests old mid new w s t e rest kept p set = λ a agrees.
-    (t, (w, p.adds a (length old.states) kept.0 agrees, set), rest a (agrees_old a mid.states new.states (length old.states) p.keeps agrees))
-
 -- what is built stays built, and so does what is built later
 pub row_within : (tests : List (ℕ → Bool)) (old low high new : NfaValue) (s e : ℕ)
     → Grows old low → Grows high new → BuildsRow tests low.states high.states s e → BuildsRow tests old.states new.states s e

@@ -4,8 +4,6 @@ use Rattle.std.specs.Prelude.{◌⊎◌}
 use Rattle.std.proofs.Math.Logic.{⊎_elim}
 use Rattle.std.proofs.lemmas.List.{reverse-append, length-map, length-reverse}
 use Rattle.glob_syntax.specs.declared.options.Options.{Options}
-use Rattle.glob_syntax.specs.declared.token.Token as held
-use Rattle.glob_syntax.specs.declared.token.Token.TheVariants as variants
 use Rattle.glob_syntax.specs.Token.{Token, Group, Tokens, Branches, none, branch}
 use Rattle.glob_syntax.specs.Reading.{Levels, in_level, open_level, next_branch, close_level, first_branch}
 use Rattle.glob_syntax.specs.FlatTokens.{all_levels, Flat, simple, opening, comma, closing, level}

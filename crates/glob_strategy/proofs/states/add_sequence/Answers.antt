@@ -1,15 +1,14 @@
-use Rattle.std.proofs.Common.{◌≡◌, ◌+◌, ◌-◌, ◌<◌, ◌||◌, not, [], ◌∷◌, ◌++◌, length, drop, arith, refl, sym, ap, subst, ◌∙◌}
-use Rattle.std.proofs.lemmas.List.{drop_more, drop_all}
+use Rattle.std.proofs.Common.{◌≡◌, ◌+◌, ◌-◌, ◌<◌, ◌||◌, not, [], ◌∷◌, ◌++◌, length, drop, arith, sym, ap, subst, ◌∙◌}
+use Rattle.std.proofs.lemmas.List.{drop_more}
 use Rattle.glob_syntax.specs.Reading.{next_branch}
 use Rattle.glob_syntax.specs.FlatTokens.{all_levels, levels_of, opening, comma, closing}
 use Rattle.glob_syntax.specs.Views.{flat_of, flats}
 use Rattle.glob_syntax.proofs.lemmas.FlatTokens.{levels_more, open_around, depth, sole}
 use Rattle.byte_nfa.specs.Steps.{union_state}
 use Rattle.bit_sets.specs.Numbers.{AreBelow}
-use Rattle.byte_nfa.specs.Building.{Pushes, Grows}
+use Rattle.byte_nfa.specs.Building.{Pushes}
 use Rattle.byte_nfa.specs.Runs.{size}
 use Rattle.glob_strategy.specs.inner.Frames.{Frame, frame_of, frames_of, ended, targets_of, Stands}
-use Rattle.byte_nfa.proofs.lemmas.Growing.{grows_none, grows_then}
 use Rattle.glob_strategy.proofs.lemmas.Frames.{frames_push, frames_length, below_targets, within_ended, stands_flat, stands_close, stands_comma, stands_group, stands_whole, weight_whole}
 use Rattle.glob_syntax.proofs.lemmas.TokenLists.{not_blank}
 use Rattle.glob_strategy.proofs.states.add_sequence.Goals as goal
@@ -114,41 +113,3 @@ returns-clause-builds c =
     let inv = rw whole at c.loop-i.invariant in
     stands_whole c.args.options c.args.builder.now c.loop-i.builder (frame_of c.loop-i.frame) (frames_of c.loop-i.around.items) (levels_of (flats tokens)) c.args.exit
     inv (depth 0 (flats tokens) c.requires.nested)
-
-pub returns-in_err-push-in-Close-clause-grows : goal.returns-in_err-push-in-Close-clause-grows
-returns-in_err-push-in-Close-clause-grows c = c.loop-i.invariant.grows
-
-pub returns-in_err-frame-in-Comma-clause-grows : goal.returns-in_err-frame-in-Comma-clause-grows
-returns-in_err-frame-in-Comma-clause-grows c = c.loop-i.invariant.grows
-
-pub returns-in_err-group-in-Open-clause-grows : goal.returns-in_err-group-in-Open-clause-grows
-returns-in_err-group-in-Open-clause-grows c = c.loop-i.invariant.grows
-
-pub returns-in_err-targets-in-Open-clause-grows : goal.returns-in_err-targets-in-Open-clause-grows
-returns-in_err-targets-in-Open-clause-grows c = c.loop-i.invariant.grows
-
-pub returns-in_err-start-in-Open-clause-grows : goal.returns-in_err-start-in-Open-clause-grows
-returns-in_err-start-in-Open-clause-grows c =
-    subst (Grows c.args.builder.now) (sym c.in_err-start-in-Open.ensures.unchanged) c.loop-i.invariant.grows
-
-pub returns-in_err-start-in_default-clause-grows : goal.returns-in_err-start-in_default-clause-grows
-returns-in_err-start-in_default-clause-grows c =
-    grows_then c.args.builder.now c.loop-i.builder c.add_token.new.builder c.loop-i.invariant.grows c.add_token.ensures.grows
-
-pub returns-clause-grows : goal.returns-clause-grows
-returns-clause-grows c = c.loop-i.invariant.grows
-
-pub returns-clause-within : goal.returns-clause-within
-returns-clause-within c = c.loop-i.invariant.within.0
-
-pub loop-i-init : goal.loop-i-init
-loop-i-init c =
-    let tokens = c.args.tokens.now in
-    let none : drop (length tokens - 0) tokens ≡ [] = drop_all (length tokens - 0) tokens (omega arith) in
-    rw (none, c.new-frame.ensures, c.new-around.ensures.items) record {
-      grows = grows_none c.args.builder.now;
-      count = omega arith;
-      within = (c.requires.exit, c.requires.exit, (λ i lt. absurd (omega (arith, lt))), tt);
-      blank = (refl, refl, tt);
-      builds = λ a agrees. (refl, refl, refl, tt);
-    }

@@ -1,5 +1,3 @@
-use Rattle.std.proofs.Common.{[], ◌∷◌, length, ap, arith}
-use Rattle.std.proofs.lemmas.List.{length-append}
 use Rattle.glob_syntax.specs.Views.{tokens_of}
 use Rattle.glob_strategy.proofs.lemmas.IndexedTokens.{one_more, still_for}
 use Rattle.byte_nfa.proofs.lemmas.Pushing.{on_err}
@@ -16,10 +14,3 @@ returns-in_err-start-clause-kept c = on_err c.from_residual.result (λ xs before
 pub returns-in_err-add_start-clause-kept : goal.returns-in_err-add_start-clause-kept
 returns-in_err-add_start-clause-kept c =
     rw c.in_err-add_start.ensures.unchanged (on_err c.from_residual-in_err-add_start.result (λ xs before. still_for c.args.builder.now c.add_whole.new.builder xs c.add_whole.ensures.grows before))
-
-pub returns-clause-reads : goal.returns-clause-reads
-returns-clause-reads c =
-    let starts = ap length c.in_ok-add_start.ensures.starts in
-    let pushed = length-append c.add_whole.new.builder.starts (c.in_ok-start.start ∷ []) in
-    let states = ap length c.in_ok-add_start.ensures.states in
-    omega (arith, starts, pushed, states, c.in_ok-start.ensures.count, ap length c.in_ok-start.ensures.grows.starts)

@@ -1,24 +1,12 @@
-use Rattle.std.proofs.Common.{◌≡◌, true, sym, ◌∙◌, arith}
+use Rattle.std.proofs.Common.{sym, ◌∙◌}
 use Rattle.glob_syntax.specs.Views.{tokens_of}
-use Rattle.glob_syntax.specs.TokensMatch.{is_prefix_alone}
-use Rattle.byte_nfa.specs.Steps.{match_state}
-use Rattle.byte_nfa.proofs.lemmas.Growing.{grows_then, grows_push}
-use Rattle.glob_strategy.proofs.lemmas.IndexedTokens.{whole_built, everything_built, alone_weight}
+use Rattle.glob_strategy.proofs.lemmas.IndexedTokens.{whole_built, everything_built}
 use Rattle.glob_strategy.proofs.states.add_whole.Goals as goal
-
-pub returns-in_ok-every-clause-count : goal.returns-in_ok-every-clause-count
-returns-in_ok-every-clause-count c =
-    let alone : is_prefix_alone (tokens_of c.args.tokens.now) ≡ true = sym c.is_prefix_alone.ensures ∙ c.if-is_prefix_alone.true in
-    omega (arith, alone_weight c.args.options (tokens_of c.args.tokens.now) alone, c.in_ok-end.ensures.pushed.len, c.in_ok-every.ensures.pushed.len)
 
 pub returns-in_ok-every-clause-builds : goal.returns-in_ok-every-clause-builds
 returns-in_ok-every-clause-builds c =
     everything_built c.args.options (tokens_of c.args.tokens.now) c.args.index c.args.builder.now c.push_match.new.self c.push_loop.new.self c.everything.result c.in_ok-every.every c.in_ok-end.end
     (sym c.is_prefix_alone.ensures ∙ c.if-is_prefix_alone.true) c.in_ok-end.ensures.pushed c.in_ok-every.ensures.pushed c.everything.ensures
-
-pub returns-in_ok-start-clause-grows : goal.returns-in_ok-start-clause-grows
-returns-in_ok-start-clause-grows c =
-    grows_then c.args.builder.now c.push_match.new.self c.add_sequence.new.builder (grows_push c.args.builder.now c.push_match.new.self c.in_ok-end.end (match_state c.args.index) c.in_ok-end.ensures.pushed) c.add_sequence.ensures.grows
 
 pub returns-in_ok-start-clause-builds : goal.returns-in_ok-start-clause-builds
 returns-in_ok-start-clause-builds c =

@@ -1,16 +1,8 @@
-use Rattle.std.proofs.Common.{length, ap, sym, ◌∙◌, arith}
-use Rattle.std.proofs.lemmas.List.{length-append}
+use Rattle.std.proofs.Common.{sym, ◌∙◌}
 use Rattle.glob_syntax.specs.Views.{flats, tokens_of}
 use Rattle.glob_strategy.proofs.lemmas.BeforeEnding.{tokens_cut, no_ending_before}
 use Rattle.glob_strategy.proofs.lemmas.Endings.{ending_same}
 use Rattle.glob_strategy.proofs.strategy.tokens_before_ending.Goals as goal
-
-pub overflow_sub-end : goal.overflow_sub-end
-overflow_sub-end c =
-    let e = c.in-Some.ensures.last in
-    let all = ap length e.cut in
-    let parts = length-append e.before c.in-Some.last.now in
-    omega (arith, all, parts)
 
 pub returns-in-Some-clause-tokens : goal.returns-in-Some-clause-tokens
 returns-in-Some-clause-tokens c = (tokens_cut c.args.tokens.now c.in-Some.last.now c.requires c.in-Some.ensures.last).0
