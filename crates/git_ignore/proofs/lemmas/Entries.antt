@@ -2,7 +2,7 @@
 use Rattle.std.proofs.Common.{◌≡◌, ◌⊎◌, inl, inr, ℕ, zero, suc, ◌+◌, ◌<◌, ◌≤◌, List, [], ◌∷◌, ◌++◌, length, take, Bool, true, false, refl, ap, sym, ◌∙◌, arith}
 use Rattle.std.specs.Prelude.{◌&&◌, ◌↔◌, IsOk, IsTrue, OnOk, Result, Ok, Err, Option, Some, None, if◌then◌else◌, slice_get}
 use Rattle.std.proofs.lemmas.Bool.{cases_lt, false≢true}
-use Rattle.std.proofs.lemmas.List.{length-map, map-append}
+use Rattle.std.proofs.lemmas.List.{length-map}
 use Rattle.std.proofs.Math.Seq.{take-length}
 use Rattle.bit_sets.specs.Indexes.{has_index}
 use Rattle.bit_sets.specs.Texts.{AllBytes}
@@ -13,7 +13,7 @@ use Rattle.ignore_pattern.specs.Automata.{IsAutomatonOf, SomeAbove, above_index,
 use Rattle.ignore_pattern.specs.Patterns.{Pattern, pattern_matches, applies}
 use Rattle.git_ignore.specs.Rules.{Rule, last_rule, patterns_of, told, deciding_rule, rules_of}
 use Rattle.git_ignore.specs.declared.entry.RuleEntry.{RuleEntry}
-use Rattle.git_ignore.specs.inner.Entries.{is_for, entry_of, entry_of_rule, told_of, chosen, last_found, rule_at, entries_of, ArePartsOf, AreStored}
+use Rattle.git_ignore.specs.inner.Entries.{is_for, entry_of, entry_of_rule, told_of, chosen, last_found, entries_of, AreStored}
 
 -- ---- from entries to rules that decide
 
@@ -41,17 +41,6 @@ last_rule_more c path f [] r = refl
 last_rule_more c path f (q ∷ rules) r =
     ap (λ (o : Option Rule). elim o as (λ _. Option Rule) [ Some last ↦ Some last | None ↦ if applies c q.pattern path f then Some q else None ]) (last_rule_more c path f rules r)
     ∙ or_later (applies c r.pattern path f) (applies c q.pattern path f) r q (last_rule c path f rules)
-
--- the line was read, and its rule added
-pub line_added : (done : List Rule) (ps qs : List Pattern) (es ds : List RuleEntry) (n : ℕ) (p : Pattern) (o : Option Pattern)
-    → o ≡ Some p → qs ≡ ps ++ p ∷ [] → ds ≡ es ++ entry_of (record { line = n; pattern = p }) ∷ []
-    → ArePartsOf done ps es → ArePartsOf (done ++ rule_at n o) qs ds
-line_added done ps qs es ds n p o is put pushed h =
-    let r : Rule = record { line = n; pattern = p } in
-    rw (is, put, pushed) (record {
-      same_patterns = ap (λ (l : List Pattern). l ++ p ∷ []) h.same_patterns ∙ sym (map-append (λ (rule : Rule). rule.pattern) done (r ∷ []));
-      same_entries = ap (λ (l : List RuleEntry). l ++ entry_of r ∷ []) h.same_entries ∙ sym (map-append entry_of done (r ∷ []));
-    })
 
 -- ---- the entries that are found
 

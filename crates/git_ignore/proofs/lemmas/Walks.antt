@@ -9,7 +9,7 @@ use Rattle.std.proofs.Math.Seq.{drop-length, take-append_seam, take-length}
 use Rattle.git_ignore.specs.Folders.{IgnoreFile, files_rule}
 use Rattle.git_ignore.specs.TwoRules.{deciding, ignored_above, ignoring}
 use Rattle.git_ignore.specs.RulesValue.{FitsAsBefore, FitsRules, ScratchValue}
-use Rattle.git_ignore.specs.StackValue.{StackValue, entered, file_at, left, stack_files, with_file}
+use Rattle.git_ignore.specs.StackValue.{StackValue, file_at, left, stack_files, with_file}
 use Rattle.git_ignore.specs.declared.decision.DecideBy.TheVariants.{Git}
 use Rattle.git_ignore.specs.declared.decision.DecidingRule.{DecidingRule}
 use Rattle.git_ignore.specs.declared.folder_rules.FolderRules.{FolderRules}

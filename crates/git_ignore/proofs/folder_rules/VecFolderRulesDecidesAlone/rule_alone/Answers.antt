@@ -1,15 +1,7 @@
-use Rattle.std.proofs.Common.{◌-◌, sym, ◌∙◌, arith, subst}
-use Rattle.git_ignore.specs.RulesValue.{FitsRules}
-use Rattle.git_ignore.specs.declared.folder_rules.FolderRules.{FolderRules}
-use Rattle.git_ignore.proofs.lemmas.Stacks.{file_decides, file_undecided, fit_still_there}
+use Rattle.std.proofs.Common.{sym, ◌∙◌, arith}
+use Rattle.git_ignore.proofs.lemmas.Stacks.{file_decides, file_undecided}
 use Rattle.git_ignore.proofs.lemmas.TwoRules.{none_if_not_some}
 use Rattle.git_ignore.proofs.folder_rules.VecFolderRulesDecidesAlone.rule_alone.Goals as goal
-
-pub path_rule-rule-requires : goal.path_rule-rule-requires
-path_rule-rule-requires c =
-    let l = c.loop-count in
-    subst (λ (f : FolderRules). FitsRules l.scratch f.rules) (sym c.index.ensures)
-    (fit_still_there _ l.scratch c.args.self.now.items c.requires l.invariant.scratch (l.count - 1) c.index.result.now (omega (arith, c.loop-count-test.true, l.invariant.within)))
 
 pub returns-then-is_some-clause-rule : goal.returns-then-is_some-clause-rule
 returns-then-is_some-clause-rule c =
