@@ -12,7 +12,7 @@ use Rattle.glob_relations.specs.Unused.{items_at}
 use Rattle.glob_relations.specs.declared.domain.Domain.{Domain}
 use Rattle.glob_relations.specs.inner.Automata.{SomeMatches, IsFor, numbered, FindsEach}
 use Rattle.glob_relations.proofs.lemmas.Domains.{is_in}
-use Rattle.glob_relations.proofs.lemmas.Indexes.{contains_one}
+use Rattle.bit_sets.proofs.lemmas.IndexSets.{in_one}
 use Rattle.glob_relations.proofs.lemmas.Unused.{none_match, some_at_back}
 
 -- the item of the index k, where the first of the list has the index n, matches the path
@@ -71,4 +71,4 @@ module _ {A : Type 0} (matches : A → List ℕ → Bool) (ps : List A) (m : Nfa
   pub not_found_alone : (p : A) (by : List A) → IsMissed matches p by domain path → (k : ℕ) → IsFalse (has_index set k) → IsCovered matches p (items_at ps (k ∷ [])) domain → ⊥
   not_found_alone p by (inside', matched, none) k off covered =
       let (j, at, (q, is, h)) = some_at_back matches ps path (k ∷ []) (covered path inside' matched) in
-      true≢false (sym (subst (λ (n : ℕ). IsTrue (has_index set n)) (sym (contains_one k j at)) (found_there j q is h)) ∙ off)
+      true≢false (sym (subst (λ (n : ℕ). IsTrue (has_index set n)) (sym (in_one k j at)) (found_there j q is h)) ∙ off)

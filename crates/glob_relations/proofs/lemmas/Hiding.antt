@@ -5,6 +5,7 @@ use Rattle.std.proofs.lemmas.Bool.{cases_lt}
 use Rattle.std.proofs.lemmas.Option.{slice_get_within}
 use Rattle.std.proofs.Math.Logic.{⊎_elim}
 use Rattle.bit_sets.specs.Texts.{AllBytes}
+use Rattle.bit_sets.proofs.lemmas.Texts.{front_bytes}
 use Rattle.byte_nfa.specs.Steps.{NfaValue, IsReached}
 use Rattle.ignore_pattern.specs.Patterns.{Pattern, pattern_matches}
 use Rattle.glob_relations.specs.Answers.{some_match}
@@ -81,10 +82,6 @@ not_false : (b : Bool) → IsFalse b → not b ≡ true
 not_false true e = absurd (true≢false e)
 not_false false e = refl
 
-all_left : (xs ys : List ℕ) → AllBytes (xs ++ ys) → AllBytes xs
-all_left [] ys all = tt
-all_left (x ∷ xs) ys (lt, rest) = (lt, all_left xs ys rest)
-
 -- from each index that an automaton finds, from the number itself
 pub finds_from : (ignore_case : Bool) (ps : List Pattern) (m : NfaValue) → FindsEach (pattern_matches ignore_case) ps m → FindsFrom (pattern_matches ignore_case) 0 ps m
 finds_from ignore_case ps m finds k p path at bytes =
@@ -114,7 +111,7 @@ module _ (ignore_case : Bool) (first : ℕ) (ps : List Pattern) (m : NfaValue) (
 
   module _ (path : List ℕ) (bytes : AllBytes path) where
     above : (folder rest : List ℕ) → path ≡ folder ++ 47 ∷ rest → AllBytes folder
-    above folder rest is = all_left folder (47 ∷ rest) (subst AllBytes is bytes)
+    above folder rest is = front_bytes folder (47 ∷ rest) (subst AllBytes is bytes)
 
     pub closed_hides : (k : ℕ) → IsClosedAbove (ignores_of ps) first (IsReached m) path k → IsHiddenBy ignore_case ps path k
     closed_hides k (folder, rest, is, closed) = (folder, rest, is, (closed_ignores folder (above folder rest is) k).0 closed)

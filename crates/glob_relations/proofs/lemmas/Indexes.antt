@@ -4,6 +4,7 @@ use Rattle.std.specs.Prelude.{IfOk, OnOk, Contains, Result, Ok, Err, slice_index
 use Rattle.std.specs.List.{range_with_len}
 use Rattle.std.proofs.lemmas.List.Elements.{Contains-append_left, Contains-append_right, Contains-append_cases}
 use Rattle.std.proofs.Math.Logic.{⊎_elim}
+use Rattle.bit_sets.proofs.lemmas.IndexSets.{in_one}
 
 -- the default is of no effect
 pub at_any : (xs : List ℕ) (j d : ℕ) → j < length xs → slice_index xs j ≡ slice_index_or xs j d
@@ -20,10 +21,6 @@ contains_index xs i lt = (i, lt, sym (at_any xs i (slice_index xs i) lt))
 
 pub contains_none : (k : ℕ) → Contains [] k → ⊥
 contains_none k (i, lt, is) = omega arith
-
-pub contains_one : (k j : ℕ) → Contains (k ∷ []) j → k ≡ j
-contains_one k j (zero, lt, is) = is
-contains_one k j (suc i, lt, is) = absurd (omega arith)
 
 -- Indexes of which one is left out.
 abbrev pub rest_of : List ℕ → ℕ → List ℕ
@@ -83,7 +80,7 @@ split_first others = record {
 pub split_next : (others by rest : List ℕ) (i : ℕ) → i < length rest → IsSplit others by rest → IsSplit others (by ++ slice_index rest i ∷ []) (rest_of rest i)
 split_next others by rest i lt is = record {
   early = λ k at. ⊎_elim {C = Contains others k} (is.early k)
-      (λ new. subst (Contains others) (contains_one (slice_index rest i) k new) (is.late (slice_index rest i) (contains_index rest i lt)))
+      (λ new. subst (Contains others) (in_one (slice_index rest i) k new) (is.late (slice_index rest i) (contains_index rest i lt)))
       (Contains-append_cases by (slice_index rest i ∷ []) k at);
   late = λ k at. is.late k (contains_rest rest i k at);
   all = λ k at. ⊎_elim {C = Contains (by ++ slice_index rest i ∷ []) k ⊎ Contains (rest_of rest i) k}

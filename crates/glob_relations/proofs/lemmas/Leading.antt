@@ -26,11 +26,6 @@ number_contained t (x ∷ xs) h = ⊎_elim {C = Contains (x ∷ xs) t}
     (λ other. let (i, lt, is) = number_contained t xs other in (suc i, omega arith, is))
     (or_cases (t == x) (has_number t xs) h)
 
-pub listed_contained : (t : ℕ) (xs : List ℕ) → HasNumber t xs → Contains xs t
-listed_contained t [] h = absurd h
-listed_contained t (x ∷ xs) (inl is) = (0, omega arith, sym is)
-listed_contained t (x ∷ xs) (inr other) = let (i, lt, is) = listed_contained t xs other in (suc i, omega arith, is)
-
 -- nothing is wanted from a row whose states all have the mark false
 pub dead_row : (m : NfaValue) (n : Question) (marks : List Bool) (row : SearchRow) (y : List ℕ) → 0 < n.required → AreLeading m 0 marks → ((t : ℕ) → Contains row.states.items t → IsTrue (mark marks t) → ⊥) → WantsRow m n row y → ⊥
 dead_row m n marks row y some are none (ends', (all, last), clear) =

@@ -6,28 +6,9 @@ use Rattle.std.proofs.lemmas.List.{get_or_append_left}
 use Rattle.std.proofs.Math.Logic.{⊎_elim}
 use Rattle.std.proofs.Math.Seq.{get_or-append_seam}
 use Rattle.bit_sets.specs.Numbers.{has_number, AreBelow}
+use Rattle.bit_sets.proofs.lemmas.Lists.{listed_push}
 use Rattle.byte_nfa.proofs.lemmas.Accepting.{listed_at}
 use Rattle.byte_nfa.proofs.lemmas.Pass.{or_first, or_second}
-
-pub listed_push : (k x : ℕ) (xs : List ℕ) → has_number k (xs ++ x ∷ []) ≡ (has_number k xs || (k == x))
-listed_push k x [] = swapped (k == x)
-  where
-    swapped : (p : Bool) → (p || false) ≡ (false || p)
-    swapped true = refl
-    swapped false = refl
-listed_push k x (y ∷ ys) = ap (λ b. (k == y) || b) (listed_push k x ys) ∙ regroup (k == y) (has_number k ys) (k == x)
-  where
-    regroup : (p q r : Bool) → (p || (q || r)) ≡ ((p || q) || r)
-    regroup true q r = refl
-    regroup false q r = refl
-
-pub below_push : (n s : ℕ) (list : List ℕ) → s < n → AreBelow n list → AreBelow n (list ++ s ∷ [])
-below_push n s list lt below i small =
-    let len = length-append list (s ∷ []) in
-    ⊎_elim {C = slice_index (list ++ s ∷ []) i < n}
-    (λ low. rw (get_or_append_left list (s ∷ []) 0 i low) (below i low))
-    (λ past. let e : i ≡ length list = omega arith in rw (ap (slice_index (list ++ s ∷ [])) e ∙ get_or-append_seam list s [] 0) lt)
-    (cases_lt i (length list))
 
 -- the states down to s are listed: s is in the set, and no state between it and the bound before
 module _ (n s high : ℕ) (set : ℕ → Bool) (list : List ℕ) (lt : s < high) (le : high ≤ n) (between : (k : ℕ) → s < k → k < high → set k ≡ false)

@@ -11,7 +11,7 @@ use Rattle.glob_relations.specs.declared.domain.Domain.{Domain}
 use Rattle.glob_relations.specs.Shortest.{IsShortest}
 use Rattle.glob_relations.specs.Rules.{IsDecidedAlone, IsRival, NeverDecides}
 use Rattle.glob_relations.specs.Unused.{items_at, IsLeastCover}
-use Rattle.glob_relations.proofs.lemmas.Indexes.{contains_one}
+use Rattle.bit_sets.proofs.lemmas.IndexSets.{in_one}
 use Rattle.glob_relations.proofs.lemmas.Told.{is_false, shortest_same}
 use Rattle.glob_relations.proofs.lemmas.Unused.{covered_at, missed_uncovered, some_at_back, some_at_there}
 
@@ -92,7 +92,7 @@ module _ (ps : List Pattern) (i : ℕ) (p : Pattern) (n : ℕ) (q : Pattern) (ot
   rivals_more new late at wider is all j = (
     λ there. ⊎_elim {C = IsRival ps i p j × (j < n + 1)}
         (λ old. let (rival, low) = (all j).0 old in (rival, omega arith))
-        (λ one. let same : n ≡ j = contains_one n j one in (subst (IsRival ps i p) same (late, (q, at, wider)), omega arith))
+        (λ one. let same : n ≡ j = in_one n j one in (subst (IsRival ps i p) same (late, (q, at, wider)), omega arith))
         (Contains-append_cases others (n ∷ []) j (subst (λ (xs : List ℕ). Contains xs j) is there)),
     λ (rival, low). subst (λ (xs : List ℕ). Contains xs j) (sym is)
         (⊎_elim {C = Contains (others ++ n ∷ []) j}

@@ -12,7 +12,8 @@ use Rattle.glob_relations.specs.declared.domain.Domain.{Domain}
 use Rattle.glob_relations.specs.declared.unused.Decides.{Decides}
 use Rattle.glob_relations.specs.declared.unused.Decides.TheVariants.{First, Last}
 use Rattle.glob_relations.specs.declared.unused.Reachability.{Reachability}
-use Rattle.glob_relations.proofs.lemmas.Indexes.{each_contained, contains_none, contains_one, rest_of, contains_rest, rest_contains, rest_before, range_below}
+use Rattle.bit_sets.proofs.lemmas.IndexSets.{in_one}
+use Rattle.glob_relations.proofs.lemmas.Indexes.{each_contained, contains_none, rest_of, contains_rest, rest_contains, rest_before, range_below}
 use Rattle.glob_relations.proofs.lemmas.Told.{is_false}
 
 -- some item of the list at one of the indexes matches the path
@@ -108,9 +109,9 @@ module _ {A : Type 0} (matches : A → List ℕ → Bool) where
   pub least_one : (xs : List A) (x : A) (others : List ℕ) (domain : Domain) (k : ℕ) → Contains others k → (IsCovered matches x [] domain → ⊥) → IsCovered matches x (items_at xs (k ∷ [])) domain
       → IsLeastCover matches xs x (Contains others) domain (k ∷ [])
   least_one xs x others domain k at some covered = record {
-    within = λ j is. subst (Contains others) (contains_one k j is) at;
+    within = λ j is. subst (Contains others) (in_one k j is) at;
     covers = covered;
-    least = λ j is rest fewer still. some (covered_at xs x domain rest [] (λ i in'. absurd ((fewer i in').1 (sym (contains_one k i (fewer i in').0) ∙ contains_one k j is))) still);
+    least = λ j is rest fewer still. some (covered_at xs x domain rest [] (λ i in'. absurd ((fewer i in').1 (sym (in_one k i (fewer i in').0) ∙ in_one k j is))) still);
     single = λ lt j is still. absurd (omega arith);
   }
 

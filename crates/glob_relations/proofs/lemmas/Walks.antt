@@ -14,6 +14,7 @@ use Rattle.glob_relations.specs.declared.rows.SearchRows.{SearchRows}
 use Rattle.glob_relations.specs.declared.search.Question.{Question}
 use Rattle.glob_relations.specs.inner.Rows.{AcceptsIn, AreAlike, AreRepresentatives, IsFollowed, IsFollowedBy, KeepsRows}
 use Rattle.glob_relations.proofs.lemmas.Classes.{wants_alike}
+use Rattle.glob_relations.proofs.lemmas.Indexes.{at_any}
 use Rattle.glob_relations.proofs.lemmas.Passes.{accepts_listed}
 use Rattle.glob_relations.proofs.lemmas.Rows.{get_some, followed_kept}
 
@@ -49,8 +50,3 @@ module _ (m : NfaValue) (n : Question) (number : ℕ) (bytes : List ℕ) where
       let (b, (j, within, is), alike) = are c lt in
       let same : slice_index bytes j ≡ b = at_any bytes j b within ∙ is in
       each j (omega arith) row at y (wants_alike m n row (slice_index bytes j) c y (subst (λ (x : ℕ). AreAlike m x c) (sym same) alike) wants)
-    where
-      at_any : (xs : List ℕ) (j d : ℕ) → j < length xs → slice_index xs j ≡ slice_index_or xs j d
-      at_any [] j d lt' = absurd (omega arith)
-      at_any (x ∷ xs) zero d lt' = refl
-      at_any (x ∷ xs) (suc j) d lt' = at_any xs j d (omega arith)

@@ -3,11 +3,6 @@ use Rattle.std.specs.List.{range_with_len}
 use Rattle.glob_relations.proofs.lemmas.Indexes.{range_more}
 use Rattle.glob_relations.proofs.compared.numbers.Goals as goal
 
-pub loop-k-init : goal.loop-k-init
-loop-k-init c =
-    let none : 0 ≡ c.args.low - c.args.low = omega arith in
-    c.new-all.ensures.items ∙ ap (range_with_len c.args.low) none
-
 pub loop-k-preserved : goal.loop-k-preserved
 loop-k-preserved c =
     let low = c.args.low in
@@ -15,8 +10,3 @@ loop-k-preserved c =
     let next : n + 1 ≡ c.loop-k.k + 1 - low = omega arith in
     let here : c.loop-k.k ≡ low + n = omega arith in
     c.in_ok-push.ensures.items ∙ ap (λ xs. xs ++ c.loop-k.k ∷ []) c.loop-k.invariant ∙ ap (λ x. range_with_len low n ++ x ∷ []) here ∙ sym (range_more low n) ∙ ap (range_with_len low) next
-
-pub returns : goal.returns
-returns c =
-    let all : c.loop-k.k - c.args.low ≡ c.args.high - c.args.low = omega arith in
-    c.loop-k.invariant ∙ ap (range_with_len c.args.low) all

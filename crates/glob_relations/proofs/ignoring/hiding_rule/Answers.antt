@@ -31,6 +31,3 @@ loop-at-preserved c =
       | else-path-at-eq47 w ↦
           clear_more ignores m path at c.loop-at.invariant (λ slash closed. w.if-path-at-eq47.false (index_at path at 47 slash))
     ]
-
-pub returns : goal.returns
-returns c = clear_all c.args.ignores.now c.args.automaton.now c.args.path.now c.loop-at.at (omega arith) c.loop-at.invariant

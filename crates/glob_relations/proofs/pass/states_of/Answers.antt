@@ -3,15 +3,9 @@ use Rattle.std.proofs.lemmas.Bool.{cases_lt}
 use Rattle.std.proofs.Math.Logic.{⊎_elim}
 use Rattle.bit_sets.specs.Numbers.{has_number}
 use Rattle.bit_sets.specs.StateSets.{has_state}
-use Rattle.glob_relations.proofs.lemmas.Listing.{below_push, descending_push, listed_more}
+use Rattle.bit_sets.proofs.lemmas.Lists.{below_more}
+use Rattle.glob_relations.proofs.lemmas.Listing.{descending_push, listed_more}
 use Rattle.glob_relations.proofs.pass.states_of.Goals as goal
-
-pub loop-s-init : goal.loop-s-init
-loop-s-init c = rw c.new-list.ensures.items record {
-  within = omega arith;
-  states = (λ i lt. absurd (omega arith), λ i lt. absurd (omega arith));
-  has = λ t. (λ h. absurd (true≢false (sym h)), λ (low, small, at). absurd (omega arith));
-}
 
 pub loop-s-preserved : goal.loop-s-preserved
 loop-s-preserved c =
@@ -22,15 +16,6 @@ loop-s-preserved c =
     let list = c.loop-s.list.items in
     rw c.in_ok-push.ensures.items record {
       within = omega (arith, lt, inv.within);
-      states = (below_push n s list (omega (arith, lt, inv.within)) inv.states.0, descending_push s c.loop-s.high list lt (λ t listed. ((inv.has t).0 listed).0) inv.states.1);
+      states = (below_more n s list (omega (arith, lt, inv.within)) inv.states.0, descending_push s c.loop-s.high list lt (λ t listed. ((inv.has t).0 listed).0) inv.states.1);
       has = listed_more n s c.loop-s.high (has_state c.args.set.now) list lt inv.within between inv.has at;
     }
-
-pub returns-clause-has : goal.returns-clause-has
-returns-clause-has c = λ t. (
-  λ h. let (low, small, at) = (c.loop-s.invariant.has t).0 h in (small, at),
-  λ (small, at). ⊎_elim {C = IsTrue (has_number t c.loop-s.list.items)}
-      (λ under. absurd (true≢false (sym at ∙ c.in_default.ensures.found t under)))
-      (λ above. (c.loop-s.invariant.has t).1 (above, small, at))
-      (cases_lt t c.loop-s.high),
-)

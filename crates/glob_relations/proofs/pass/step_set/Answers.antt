@@ -5,15 +5,6 @@ use Rattle.byte_nfa.specs.Steps.{state}
 use Rattle.byte_nfa.proofs.lemmas.Pass.{iff_trans, none_swept, read_taken, rest_passed, quiet_step, next_position}
 use Rattle.glob_relations.proofs.pass.step_set.Goals as goal
 
-pub loop-s-init : goal.loop-s-init
-loop-s-init c = record {
-  within = omega (arith, c.state_count-limit.ensures);
-  from_capacity = omega arith;
-  to_capacity = c.clear.ensures.room;
-  steps = λ y k. let start = none_swept c.args.automaton.now.states (size c.args.automaton.now) (has_state c.args.from.now) (has_state c.clear.new.self) (λ _. false) (c.args.byte ∷ y) k
-      (λ t lt. c.clear.ensures.none t) (λ _. refl) in rw c.state_count-limit.ensures (start.1, start.0);
-}
-
 pub loop-s-preserved : goal.loop-s-preserved
 loop-s-preserved c =
     let inv = c.loop-s.invariant in

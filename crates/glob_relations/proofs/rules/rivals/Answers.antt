@@ -7,12 +7,6 @@ use Rattle.glob_relations.proofs.lemmas.Rivals.{rival_below, rivals_more, rivals
 use Rattle.glob_relations.proofs.rules.rivals.Goals.{then-applies_wherever+in_ok-push, else-applies_wherever}
 use Rattle.glob_relations.proofs.rules.rivals.Goals as goal
 
-pub loop-k-init : goal.loop-k-init
-loop-k-init c = λ j. (
-  λ at. absurd (contains_none j (subst (λ (xs : List ℕ). Contains xs j) c.new-others.ensures.items at)),
-  λ (rival, low). absurd (let late = rival.0 in omega arith),
-)
-
 pub loop-k-preserved : goal.loop-k-preserved
 loop-k-preserved c =
     let ps : List Pattern = c.args.patterns.now in

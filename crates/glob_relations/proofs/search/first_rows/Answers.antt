@@ -15,9 +15,3 @@ returns-clause-rows c =
     let states = subst (λ (x : ℕ). AreStates x list) c.state_count.ensures c.in_ok-states.ensures.states in
     first_sound c.new-rows.result c.add.new.self row origin m c.args.question.now c.in_ok-add.ensures c.new-rows.ensures.rows c.new-rows.ensures.origins states
     (c.first_place-place.ensures, first_accepts m c.start.new.into c.state_count.result c.state_count.ensures list c.in_ok-states.ensures.has c.start.ensures.starts)
-
-pub returns-clause-before : goal.returns-clause-before
-returns-clause-before c =
-    let row : SearchRow = record { place = c.first_place-place.result; states = c.in_ok-states.states } in
-    let origin : Origin = record { row = 0; byte = 0 } in
-    first_before c.new-rows.result c.add.new.self row origin c.in_ok-add.ensures c.new-rows.ensures.origins

@@ -9,6 +9,3 @@ returns-then-is_last-clause-wanted c =
       λ h. (sym c.is_last.ensures ∙ c.if-is_last.true, wanted.0 h, open_end c.args.question.now.ignores.items first_rule (AcceptsIn c.args.automaton.now c.args.row.now.states.items)),
       λ (ends, w, clear). wanted.1 w,
     )
-
-pub is_wanted-requires-clause-below : goal.is_wanted-requires-clause-below
-is_wanted-requires-clause-below c = rw c.deref.ensures.value c.requires.states.0

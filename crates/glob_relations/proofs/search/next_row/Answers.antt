@@ -14,6 +14,3 @@ returns-clause-next c =
         λ stopped. true≢false (sym (c.is_stopped.ensures.stopped.1 stopped) ∙ c.if-is_stopped.false),
       ),
     )
-
-pub step-requires-clause-below : goal.step-requires-clause-below
-step-requires-clause-below c = rw c.deref.ensures.value c.requires.states.0

@@ -4,7 +4,8 @@ use Rattle.std.proofs.lemmas.Bool.{cases_lt}
 use Rattle.std.proofs.Math.Logic.{⊎_elim}
 use Rattle.glob_relations.specs.Answers.{IsCovered}
 use Rattle.glob_relations.specs.Unused.{items_at, IsLeastCover}
-use Rattle.glob_relations.proofs.lemmas.Indexes.{contains_index, contains_one, each_contained}
+use Rattle.bit_sets.proofs.lemmas.IndexSets.{in_one}
+use Rattle.glob_relations.proofs.lemmas.Indexes.{contains_index, each_contained}
 use Rattle.glob_relations.proofs.lemmas.Unused.{least_one, missed_uncovered}
 use Rattle.glob_relations.proofs.unused.cover.Goals as goal
 use Rattle.glob_relations.proofs.unused.cover.Goals.{then-has+in_ok-covering_at+in-Not+in-Not-1, then-has+in_ok-covering_at+in-Not+in-Covered-1, else-has}
@@ -13,7 +14,7 @@ pub covering_at-requires : goal.covering_at-requires
 covering_at-requires g c = λ j at.
     let others = c.args.others.now in
     let i = c.loop-k.k-index in
-    subst (λ (x : ℕ). x < length c.args.items.now) (contains_one (slice_index others i) j at) (c.requires.within (slice_index others i) (contains_index others i c.loop-k-test.true))
+    subst (λ (x : ℕ). x < length c.args.items.now) (in_one (slice_index others i) j at) (c.requires.within (slice_index others i) (contains_index others i c.loop-k-test.true))
 
 pub loop-k-preserved : goal.loop-k-preserved
 loop-k-preserved g c = λ j lt covered.
@@ -53,7 +54,7 @@ returns-in-Unknown g c =
     let others = c.args.others.now in
     let k = slice_index others c.loop-k.k-index in
     let ok = rw c.in-Unknown.is at c.in_ok-covering_at.ensures in
-    (k ∷ [], (λ j at. subst (Contains others) (contains_one k j at) (contains_index others c.loop-k.k-index c.loop-k-test.true)), ok)
+    (k ∷ [], (λ j at. subst (Contains others) (in_one k j at) (contains_index others c.loop-k.k-index c.loop-k-test.true)), ok)
 
 pub least_cover-requires-clause-single : goal.least_cover-requires-clause-single
 least_cover-requires-clause-single g c =

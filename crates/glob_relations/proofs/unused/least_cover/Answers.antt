@@ -12,13 +12,6 @@ covering_at-requires g c = λ k at.
     let fewer = rest_is c.remove.new.self.items set c.in_ok-fewer.fewer.items c.loop-i.i (c.in_ok-fewer.ensures.items ∙ c.deref.ensures.value) c.remove.ensures.by_index.2 in
     c.requires.within k (c.loop-i.invariant.cover.within k (contains_rest set c.loop-i.i k (subst (λ (xs : List ℕ). Contains xs k) (c.deref-in-loop-i.ensures.value ∙ fewer) at)))
 
-pub loop-i-init : goal.loop-i-init
-loop-i-init g c = record {
-  within = omega arith;
-  cover = subst (λ (xs : List ℕ). IsCoverTo (g.T.Compared.matches c.args.options) c.args.items.now c.args.item.now c.args.others.now c.args.domain xs 0) (sym c.in_ok-set.ensures.items)
-      (cover_first (g.T.Compared.matches c.args.options) c.args.items.now c.args.item.now c.args.others.now c.args.by.now c.args.domain c.requires.by c.requires.covered);
-}
-
 pub loop-i-preserved-in-Covered : goal.loop-i-preserved-in-Covered
 loop-i-preserved-in-Covered g c =
     let all = c.args.items.now in

@@ -12,51 +12,8 @@ use Rattle.glob_relations.proofs.lemmas.Indexes.{IsSplit, split_first, split_tak
 use Rattle.glob_relations.proofs.lemmas.Unused.{least_none, missed_uncovered, shortest_missed}
 use Rattle.glob_relations.proofs.unused.reachability_among.Goals as goal
 
-no_length : (ks : List ℕ) → length ks ≡ 0 → ks ≡ []
-no_length [] none = refl
-no_length (k ∷ ks) none = absurd (omega arith)
-
-pub loop-rest-init : goal.loop-rest-init
-loop-rest-init g c =
-    let others = c.args.others.now in
-    record {
-      split = subst (λ (xs : List ℕ). IsSplit others xs c.in_ok-rest.rest.items) (sym c.new-by.ensures.items)
-          (subst (IsSplit others []) (sym c.in_ok-rest.ensures.items) (split_first others));
-      known = inl c.new-by.ensures.items;
-    }
-
 pub covering_at-requires : goal.covering_at-requires
 covering_at-requires g c = λ k at. c.requires.within k (c.loop-rest.invariant.split.early k (subst (λ (xs : List ℕ). Contains xs k) c.deref.ensures.value at))
-
-pub returns-then-is_empty : goal.returns-then-is_empty
-returns-then-is_empty g c =
-    let matches = g.T.Compared.matches c.args.options in
-    let xs : List g.row.T.Denot = c.args.items.now in
-    let by = c.loop-rest.by.items in
-    let none : by ≡ [] = no_length by (sym c.loop-rest.by.ok.0 ∙ eqb-true _ 0 (sym c.is_empty.ensures ∙ c.if-is_empty.true)) in
-    let ok = rw c.in-Covered.is at c.in_ok-covering_at.ensures in
-    let covered : IsCovered matches c.args.item.now [] c.args.domain = subst (λ (ks : List ℕ). IsCovered matches c.args.item.now (items_at xs ks) c.args.domain) (c.deref.ensures.value ∙ none) ok in
-    subst (λ (ks : List ℕ). IsLeastCover matches xs c.args.item.now (Contains c.args.others.now) c.args.domain ks) (sym none) (least_none matches xs c.args.item.now c.args.others.now c.args.domain covered)
-
-pub cover-requires-clause-by : goal.cover-requires-clause-by
-cover-requires-clause-by g c = λ k at. c.loop-rest.invariant.split.early k (subst (λ (xs : List ℕ). Contains xs k) c.deref-in-Covered.ensures.value at)
-
-pub cover-requires-clause-covered : goal.cover-requires-clause-covered
-cover-requires-clause-covered g c =
-    let ok = rw c.in-Covered.is at c.in_ok-covering_at.ensures in
-    subst (λ (ks : List ℕ). IsCovered (g.T.Compared.matches c.args.options) c.args.item.now (items_at c.args.items.now ks) c.args.domain) (c.deref.ensures.value ∙ sym c.deref-in-Covered.ensures.value) ok
-
-pub cover-requires-clause-some : goal.cover-requires-clause-some
-cover-requires-clause-some g c = λ covered. ⊎_elim {C = ⊥}
-    (λ none. true≢false (sym (eq-eqb _ 0 (c.loop-rest.by.ok.0 ∙ ap length none)) ∙ sym c.is_empty.ensures ∙ c.if-is_empty.false))
-    (λ (some, found). some covered)
-    c.loop-rest.invariant.known
-
-pub cover-requires-clause-found : goal.cover-requires-clause-found
-cover-requires-clause-found g c = λ k off covered. ⊎_elim {C = ⊥}
-    (λ none. true≢false (sym (eq-eqb _ 0 (c.loop-rest.by.ok.0 ∙ ap length none)) ∙ sym c.is_empty.ensures ∙ c.if-is_empty.false))
-    (λ (some, found). found k off covered)
-    c.loop-rest.invariant.known
 
 pub returns-in_default : goal.returns-in_default
 returns-in_default g c =
