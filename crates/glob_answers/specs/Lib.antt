@@ -1,0 +1,3 @@
+pub mod Selection
+pub mod Shortest
+pub mod Comparison
