@@ -3,12 +3,12 @@ use Rattle.std.specs.Prelude.{◌≡◌, ◌≢◌, ℕ, List, [], Bool, true, f
 use Rattle.globset.specs.Answer.{matching_indexes}
 use Rattle.globset.specs.GlobMatches.{GlobValue}
 
--- The set of the globs matches the line, and that of the excluded globs does not. `matching_indexes` is the indexes of the globs
--- that match, as a set returns them.
+-- The set of the globs matches the line, and that of the exceptions does not. `matching_indexes` is the indexes of the globs that
+-- match, as a set returns them.
 abbrev pub IsChosen : List GlobValue → List GlobValue → List ℕ → Type 0
-IsChosen globs excluded line = (matching_indexes globs line ≢ []) × (matching_indexes excluded line ≡ [])
+IsChosen globs exceptions line = (matching_indexes globs line ≢ []) × (matching_indexes exceptions line ≡ [])
 
 -- the line is kept: it is chosen, or inverted, it is not chosen
 abbrev pub IsKept : List GlobValue → List GlobValue → Bool → List ℕ → Type 0
-IsKept globs excluded false line = IsChosen globs excluded line
-IsKept globs excluded true line = IsChosen globs excluded line → ⊥
+IsKept globs exceptions false line = IsChosen globs exceptions line
+IsKept globs exceptions true line = IsChosen globs exceptions line → ⊥

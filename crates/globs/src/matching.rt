@@ -21,8 +21,10 @@ const FULL: usize = 65536;
 /// What a command line says of lines, and what was found so far.
 #[derive(Drop)]
 struct Filter {
+    /// The globs of which one has to match.
     globs: Searcher,
-    excluded: Searcher,
+    /// The globs of which none may match.
+    exceptions: Searcher,
     is_inverted: bool,
     is_numbered: bool,
     is_quiet: bool,
@@ -61,20 +63,20 @@ pub fn run(rt: &HostRuntime, found: &ArgMatches<'_>) -> Result<bool, Fault> {
 }
 
 impl Filter {
-    /// Returns the filter of a command line. Fails if a text is not a glob, or if there is no glob at all.
+    /// Returns the filter of a command line. Fails if a text is not a glob.
     fn new(rt: &HostRuntime, found: &ArgMatches<'_>) -> Result<Filter, Fault> {
         let alloc = rt.alloc();
         let reading = Reading::of(found);
         let mut globs = GlobList::new(alloc);
         globs.push_texts(rt, reading, "glob", found.get_strs("GLOB"))?;
         globs.push_files(rt, reading, found.get_strs("globs-from"))?;
-        let mut excluded = GlobList::new(alloc);
-        excluded.push_texts(rt, reading, "excluded glob", found.get_strs("exclude"))?;
+        let mut exceptions = GlobList::new(alloc);
+        exceptions.push_texts(rt, reading, "-x glob", found.get_strs("exclude"))?;
         globs.finish()?;
-        excluded.finish()?;
+        exceptions.finish()?;
         Ok(Filter {
             globs: globs.searcher(alloc)?,
-            excluded: excluded.searcher(alloc)?,
+            exceptions: exceptions.searcher(alloc)?,
             is_inverted: found.get_flag("invert"),
             is_numbered: found.get_flag("indexes"),
             is_quiet: found.get_flag("quiet"),
@@ -154,7 +156,12 @@ impl Filter {
     /// Handles a line.
     fn take_line(&mut self, rt: &HostRuntime, line: &[u8]) -> Result<Next, Fault> {
         let path = Candidate::from_bytes(line);
-        if !is_kept(&mut self.globs, &mut self.excluded, self.is_inverted, &path) {
+        if !is_kept(
+            &mut self.globs,
+            &mut self.exceptions,
+            self.is_inverted,
+            &path,
+        ) {
             return Ok(Next::More);
         }
         self.count = self.count.saturating_add(1);
