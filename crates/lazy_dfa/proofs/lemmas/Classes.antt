@@ -1,5 +1,5 @@
 -- Classes of bytes, made one byte after another.
-use Rattle.std.proofs.Common.{◌≡◌, ◌≢◌, ℕ, ◌+◌, ◌-◌, ◌<◌, ◌≤◌, List, length, slice_index, slice_set, refl, ap, sym, ◌∙◌, subst, arith}
+use Rattle.std.proofs.Common.{◌≡◌, ◌≢◌, ℕ, ◌+◌, ◌<◌, ◌≤◌, List, length, slice_index, slice_set, refl, ap, sym, ◌∙◌, subst, arith}
 use Rattle.std.proofs.lemmas.Bool.{cases_lt}
 use Rattle.std.proofs.lemmas.List.{get_or-set_same, get_or-set_other}
 use Rattle.std.proofs.Math.Logic.{⊎_elim}
@@ -10,20 +10,6 @@ use Rattle.byte_nfa.specs.Equivalent.{AreEquivalent}
 abbrev pub AreEquivalenceClassesBelow : List State → List ℕ → List ℕ → ℕ → ℕ → Type 0
 AreEquivalenceClassesBelow a class_of representatives last bound =
     (b : ℕ) → b < bound → (slice_index class_of b ≤ last) × AreEquivalent a (slice_index representatives (slice_index class_of b)) b
-
-pub equivalence_first : (a : List State) (class_of representatives : List ℕ) → slice_index class_of 0 ≡ 0 → slice_index representatives 0 ≡ 0 → AreEquivalenceClassesBelow a class_of representatives 0 1
-equivalence_first a class_of representatives zero_of zero_first b lt =
-    let is : b ≡ 0 = omega arith in
-    subst (λ x. (slice_index class_of x ≤ 0) × AreEquivalent a (slice_index representatives (slice_index class_of x)) x) (sym is)
-    (rw zero_of (omega arith), λ s. rw (zero_of, zero_first) refl)
-
--- a byte that is read as the one before it, with the class of that one
-pub equivalent_next : (a : List State) (class_of representatives : List ℕ) (last class i : ℕ) → 0 < i → AreEquivalenceClassesBelow a class_of representatives last i → slice_index class_of (i - 1) ≡ class
-    → AreEquivalent a (i - 1) (i - 1 + 1) → (class ≤ last) × AreEquivalent a (slice_index representatives class) i
-equivalent_next a class_of representatives last class i some old is same =
-    let one : i - 1 + 1 ≡ i = omega arith in
-    let (le, before) : (class ≤ last) × AreEquivalent a (slice_index representatives class) (i - 1) = subst (λ c. (c ≤ last) × AreEquivalent a (slice_index representatives c) (i - 1)) is (old (i - 1) (omega arith)) in
-    (le, subst (AreEquivalent a (slice_index representatives class)) one (λ s. before s ∙ same s))
 
 module _ (a : List State) (class_of representatives : List ℕ) (last i : ℕ) (old : AreEquivalenceClassesBelow a class_of representatives last i) (room : i < length class_of) where
   -- a byte more, in a class that is there

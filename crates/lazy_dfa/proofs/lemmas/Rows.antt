@@ -7,14 +7,14 @@ use Rattle.std.proofs.lemmas.List.{get_or_append_left, get_or-append_right, get_
 use Rattle.std.proofs.Math.Seq.{get_or-append_seam, drop-append-add}
 use Rattle.std.proofs.Math.Logic.{⊎_elim}
 use Rattle.bit_sets.specs.Numbers.{has_number, AreBelow}
-use Rattle.bit_sets.specs.StateSets.{has_state, state_capacity}
+use Rattle.bit_sets.specs.StateSets.{has_state}
 use Rattle.bit_sets.specs.declared.state_set.StateSet.{StateSet}
 use Rattle.byte_nfa.specs.Steps.{NfaValue, IsReached, state}
 use Rattle.lazy_dfa.specs.DfaValue.{DfaValue}
 use Rattle.byte_nfa.specs.Equivalent.{AreEquivalent, reads_byte}
 use Rattle.byte_nfa.proofs.lemmas.Equivalent.{accepts_equivalent}
 use Rattle.byte_nfa.specs.Runs.{size, AcceptsFrom, AcceptsIn}
-use Rattle.byte_nfa.proofs.lemmas.Pass.{iff_trans, or_first, accepts_within}
+use Rattle.byte_nfa.proofs.lemmas.Pass.{or_first, accepts_within}
 use Rattle.byte_nfa.specs.EarlyMatches.{half, FindsBy}
 use Rattle.lazy_dfa.specs.inner.Lists.{list_at, IsList, IsListOf}
 use Rattle.lazy_dfa.proofs.lemmas.Lists.{list_of_iff, keeps_lists, list_last}
@@ -167,33 +167,6 @@ begun_sound d old new is entries index room begins sound = record {
 
 pub same_sound : (d : DfaValue) (old new : Rows) → HasSameRows old new → new.entries.items ≡ old.entries.items → new.begin ≡ old.begin → Indexed new → HasRoomForOne d new → IsSound d old → IsSound d new
 same_sound d old new is entries begin index room sound = begun_sound d old new is entries index room (begins_kept d old new is begin sound.begins) sound
-
--- all rows were forgotten
-pub emptied_sound : (d : DfaValue) (old new : Rows) → new.starts.items ≡ [] → new.entries.items ≡ [] → new.begin ≡ None → 0 < length new.table.items
-    → HasRoomForOne d new → IsSound d old → IsSound d new
-emptied_sound d old new starts entries begin some room sound =
-    let none : length new.starts.items ≡ 0 = ap length starts in
-    let empty : length new.entries.items ≡ 0 = ap length entries in
-    record {
-      dfa = sound.dfa;
-      room = room;
-      few = omega (arith, none);
-      small = omega (arith, empty);
-      index = record {
-        some = some;
-        found = λ i lt. absurd (omega (arith, lt, none));
-        ordered = λ i lt. absurd (omega (arith, lt, none));
-        distinct = λ i j lt small is. absurd (omega (arith, small, none));
-      };
-      lists = λ i lt. absurd (omega (arith, lt, none));
-      counts = λ i lt. absurd (omega (arith, lt, none));
-      len = rw (starts, entries) (omega arith);
-      known = λ i c lt hc some. absurd (omega (arith, lt, none));
-      begins = λ p at. absurd (none_some p (sym begin ∙ at));
-    }
-  where
-    none_some : (p : ℕ) → None ≡ Some p → ⊥
-    none_some p is = true≢false (sym (ap is_some is))
 
 -- an entry was written
 pub entry_written : (d : DfaValue) (rows : Rows) (entries : List ℕ) (w n row column e i c : ℕ) → length entries ≡ n * (w + 1) → row < n → column ≤ w → c ≤ w
@@ -414,9 +387,6 @@ marks_kept d old new i n keeps lt (inr (none, is)) = inr (λ h. none (marks_befo
 pub marks_on : (m : NfaValue) (rows : Rows) (i n : ℕ) → MarksAre m rows i n → IsTrue (ltb 0 n) ↔ HasMarks m rows i
 marks_on m rows i n (inl (has, is)) = (λ _. has, λ _. subst (λ x. IsTrue (ltb 0 x)) (sym is) refl)
 marks_on m rows i n (inr (none, is)) = (λ on. absurd (true≢false (sym (subst (λ x. IsTrue (ltb 0 x)) is on))), λ h. absurd (none h))
-
-pub ends_kept : (m : NfaValue) (old new : Rows) (i : ℕ) (ends : IndexSet) → KeepsRows old new → i < length old.starts.items → HasEnds m old i ends → HasEnds m new i ends
-ends_kept m old new i ends keeps lt has k small = iff_trans (has k small) (accepts_kept m old new i [] k (keeps.states i lt))
 
 -- an entry that is taken
 pub next_is : (d : DfaValue) (rows : Rows) (i b e : ℕ) (o : Option ℕ) → LeadsTo e o → IsNext d rows i b e → MatchOption o (IsDeadBy d.run rows i b) (GoesTo d rows i b rows)

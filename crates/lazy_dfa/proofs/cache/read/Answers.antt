@@ -171,17 +171,6 @@ slice_bounds-rest-start c =
     let (next, there, goes) = rw c.in-Some-next.is at (c.leave-step.ensures.step j' at').next in
     (rw c.in-Err-read_stepped.is at c.read_stepped.ensures.reached next there).within
 
-pub loop-reached-smaller : goal.loop-reached-smaller
-loop-reached-smaller c =
-    let rest = c.loop-reached.rest.now in
-    let (j, at, runs) = c.loop-reached.invariant.runs in
-    let left = rw c.in-Err.is at c.read_from.ensures.reached j at in
-    let n = c.in-Err.left.at in
-    let after = c.in-Some.after.now in
-    let p = c.in-Err-read_stepped.left.at in
-    let more = sym (take_rest rest n) ∙ (rw c.in-Some.is at c.split_first.ensures.cases).0 in
-    rw (take_rest after p) (omega (arith, length-drop p after, length-drop n rest, ap length more, left.within))
-
 pub loop-reached-preserved : goal.loop-reached-preserved
 loop-reached-preserved c =
     let d = c.args.dfa.now in

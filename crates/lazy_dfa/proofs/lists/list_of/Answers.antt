@@ -26,17 +26,6 @@ module _ (n s high : ℕ) (set : ℕ → Bool) (list : List ℕ) (lt : s < high)
           (λ above. listed_push t s list ∙ or_first (has_number t list) (t == s) ((has t).1 (above, small, at)))
           (cases_lt t high)
 
-pub loop-s-init : goal.loop-s-init
-loop-s-init c = rw c.clear.ensures.items record {
-  within = omega arith;
-  below = λ i lt. absurd (omega arith);
-  few = omega arith;
-  has = λ t. (λ h. absurd (true≢false (sym h)), λ (low, small, at). absurd (omega arith));
-  capacity = omega arith;
-  visits = omega arith;
-  counted = omega arith;
-}
-
 pub loop-s-preserved : goal.loop-s-preserved
 loop-s-preserved c =
     let inv = c.loop-s.invariant in
@@ -53,12 +42,3 @@ loop-s-preserved c =
       visits = omega (arith, inv.visits, c.in-Some.ensures.visits);
       counted = omega (arith, inv.counted, c.in-Some.ensures.counted);
     }
-
-pub returns-clause-has : goal.returns-clause-has
-returns-clause-has c = λ t. (
-  λ h. let (low, small, at) = (c.loop-s.invariant.has t).0 h in (small, at),
-  λ (small, at). ⊎_elim {C = IsTrue (has_number t c.loop-s.list.items)}
-      (λ under. absurd (true≢false (sym at ∙ c.in_default.ensures.found t under)))
-      (λ above. (c.loop-s.invariant.has t).1 (above, small, at))
-      (cases_lt t c.loop-s.high),
-)

@@ -1,27 +1,10 @@
-use Rattle.std.proofs.Common.{[], ◌∷◌, false, length, ap, arith, ◌∙◌, refl}
+use Rattle.std.proofs.Common.{[], ◌∷◌, false, arith, ◌∙◌}
 use Rattle.bit_sets.specs.Numbers.{has_number}
 use Rattle.bit_sets.specs.Indexes.{has_index}
 use Rattle.bit_sets.specs.StateSets.{has_state}
 use Rattle.byte_nfa.specs.Steps.{state}
-use Rattle.byte_nfa.specs.Runs.{size}
-use Rattle.byte_nfa.proofs.lemmas.Pass.{iff_trans, none_swept, read_taken, rest_passed, quiet_step, stays_at_end, next_position, last_position, accepts_within, iff_sym}
+use Rattle.byte_nfa.proofs.lemmas.Pass.{iff_trans, read_taken, rest_passed, quiet_step, stays_at_end, next_position, accepts_within}
 use Rattle.lazy_dfa.proofs.pass.read.Goals as goal
-
-pub loop-s-init : goal.loop-s-init
-loop-s-init c = record {
-  within = omega arith;
-  from_capacity = refl;
-  to_capacity = omega (arith, c.clear.ensures.capacity);
-  below = λ i lt. absurd (omega (arith, ap length c.clear.ensures.items, lt));
-  few = omega (arith, ap length c.clear.ensures.items, c.state_count-limit.ensures);
-  ends_capacity = c.clear-2.ensures.room;
-  steps = λ y k. rw c.state_count-limit.ensures (iff_sym (none_swept c.args.automaton.now.states (size c.args.automaton.now) (has_state c.args.from.now) (λ t. has_number t c.clear.new.self.items) (λ _. false) (c.args.byte ∷ y) k
-      (λ t lt. ap (has_number t) c.clear.ensures.items) (λ _. refl)));
-  ends = λ k. rw c.state_count-limit.ensures (iff_sym (none_swept c.args.automaton.now.states (size c.args.automaton.now) (has_state c.args.from.now) (λ _. false) (has_index c.clear-2.new.self) [] k
-      (λ t lt. refl) c.clear-2.ensures.none));
-  visits = omega arith;
-  counted = omega (arith, ap length c.clear.ensures.items);
-}
 
 pub loop-s-preserved : goal.loop-s-preserved
 loop-s-preserved c =
@@ -54,9 +37,3 @@ returns-clause-steps c = λ y k.
     (iff_trans (rest_passed c.args.automaton.now.states c.loop-s.limit k (c.args.byte ∷ y) (has_state c.loop-s.from) (λ t. has_number t c.loop-s.to.items) (λ _. false) c.in_default.ensures.found)
     (iff_trans (next_position c.args.automaton.now.states (has_state c.loop-s.from) (λ t. has_number t c.loop-s.to.items) (λ _. false) c.args.byte y k)
     (λ (t, lt, at, h). (t, at, h), λ (t, at, h). (t, accepts_within c.args.automaton.now.states k t y h, at, h))))
-
-pub returns-clause-ends : goal.returns-clause-ends
-returns-clause-ends c = λ k.
-    iff_sym (iff_trans (c.loop-s.invariant.ends k)
-    (iff_trans (rest_passed c.args.automaton.now.states c.loop-s.limit k [] (has_state c.loop-s.from) (λ _. false) (has_index c.loop-s.ends) c.in_default.ensures.found)
-    (last_position c.args.automaton.now.states (has_state c.loop-s.from) (λ _. false) (has_index c.loop-s.ends) k)))

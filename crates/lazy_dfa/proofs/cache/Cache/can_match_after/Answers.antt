@@ -1,4 +1,4 @@
-use Rattle.std.proofs.Common.{◌≡◌, ℕ, ◌+◌, ◌*◌, ◌<◌, [], ap, arith, length, ◌++◌, ◌∷◌, sym, true≢false, ◌∙◌}
+use Rattle.std.proofs.Common.{◌≡◌, ℕ, ◌+◌, ◌<◌, [], ap, arith, length, ◌++◌, ◌∷◌, sym, true≢false, ◌∙◌}
 use Rattle.bit_sets.proofs.lemmas.Texts.{all_bytes}
 use Rattle.lazy_dfa.specs.DfaValue.{DfaValue}
 use Rattle.lazy_dfa.specs.inner.Dfa.{IsDfa}
@@ -103,3 +103,17 @@ returns-clause-visits c =
       | in-Some w ↦ rw w.visits-is (omega (arith, bound, c.read.ensures.visits, c.step-step.ensures.visits, w.is_live.ensures.visits))
       | in-None w ↦ rw w.visits-is (omega (arith, bound, c.read.ensures.visits, c.step-step.ensures.visits))
     ]
+
+pub returns-in-Decided-clause-visits : goal.returns-in-Decided-clause-visits
+returns-in-Decided-clause-visits c =
+    let d = c.deref-dfa.result.now in
+    let is = ap (λ (x : DfaValue). x.nfa) c.deref-dfa.ensures ∙ c.self.view_is in
+    let bound = bound_as d c.args.self.now c.read.ensures.sound.dfa is (length c.args.text.now + 2) in
+    omega (arith, bound, c.read.ensures.visits)
+
+pub returns-in-Nothing-clause-visits : goal.returns-in-Nothing-clause-visits
+returns-in-Nothing-clause-visits c =
+    let d = c.deref-dfa.result.now in
+    let is = ap (λ (x : DfaValue). x.nfa) c.deref-dfa.ensures ∙ c.self.view_is in
+    let bound = bound_as d c.args.self.now c.read.ensures.sound.dfa is (length c.args.text.now + 2) in
+    omega (arith, bound, c.read.ensures.visits)

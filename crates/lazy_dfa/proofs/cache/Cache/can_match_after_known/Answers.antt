@@ -1,4 +1,4 @@
-use Rattle.std.proofs.Common.{◌≡◌, ℕ, ◌+◌, ◌*◌, ap, arith, length, ◌++◌, ◌∷◌, sym, true≢false, ◌∙◌}
+use Rattle.std.proofs.Common.{◌≡◌, ap, ◌++◌, ◌∷◌, sym, true≢false, ◌∙◌}
 use Rattle.bit_sets.proofs.lemmas.Texts.{all_bytes}
 use Rattle.lazy_dfa.specs.DfaValue.{DfaValue}
 use Rattle.lazy_dfa.specs.inner.Dfa.{IsDfa}
@@ -8,7 +8,7 @@ use Rattle.byte_nfa.proofs.lemmas.Pass.{iff_trans}
 use Rattle.byte_nfa.specs.EarlyMatches.{half}
 use Rattle.lazy_dfa.specs.inner.Rows.{AcceptsRow}
 use Rattle.byte_nfa.proofs.lemmas.After.{index_below, decided_after, nothing_after, marked_after, row_after, dead_after}
-use Rattle.lazy_dfa.proofs.lemmas.Reading.{answer_same, goes_on_as}
+use Rattle.lazy_dfa.proofs.lemmas.Reading.{goes_on_as}
 use Rattle.lazy_dfa.proofs.lemmas.Rows.{never_found}
 use Rattle.lazy_dfa.proofs.cache.Cache.can_match_after_known.Goals as goal
 

@@ -1,4 +1,4 @@
-use Rattle.std.proofs.Common.{◌≡◌, ℕ, ap, ◌*◌, ◌+◌, ◌-◌, ◌<◌, ◌∷◌, [], inr, IsTrue, true≢false, drop, length, get_or, refl, arith, sym, ◌∙◌}
+use Rattle.std.proofs.Common.{◌≡◌, ℕ, ap, ◌+◌, ◌-◌, ◌<◌, ◌∷◌, [], inr, IsTrue, true≢false, drop, length, get_or, refl, arith, sym, ◌∙◌}
 use Rattle.std.proofs.lemmas.List.{drop_more, drop_all, length-drop, take_rest}
 use Rattle.std.proofs.Math.Logic.{⊎_elim}
 use Rattle.bit_sets.specs.Indexes.{has_index}
@@ -272,3 +272,10 @@ loop-left-preserved c =
       visits = visits_stepped (length (drop p after)) p w c.leave-step.new.visits c.find_stepped.new.visits _ (rw parts at before) c.in-Some-find_stepped.ensures.visits;
       counted = omega (arith, inv.counted, c.find_from.ensures.counted, c.leave-step.ensures.counted, c.find_stepped.ensures.counted);
     }
+
+pub finish-requires-clause-row : goal.finish-requires-clause-row
+finish-requires-clause-row c =
+    let (j, at, runs) = c.loop-left.invariant.runs in
+    let left = rw c.in-Some.is at c.find_from.ensures.found j at in
+    let (j', at', finds) = left.row in
+    (j', at')

@@ -1,4 +1,4 @@
-use Rattle.std.proofs.Common.{◌≡◌, ℕ, ◌+◌, ◌*◌, ap, arith, length, sym, true≢false, ◌∙◌}
+use Rattle.std.proofs.Common.{ap, ◌∙◌}
 use Rattle.bit_sets.proofs.lemmas.Texts.{all_bytes}
 use Rattle.lazy_dfa.specs.DfaValue.{DfaValue}
 use Rattle.lazy_dfa.specs.inner.Dfa.{IsDfa}

@@ -1,5 +1,5 @@
-use Rattle.std.proofs.Common.{◌≡◌, ◌+◌, slice_set, replicate, ◌∷◌, [], ◌++◌, length, append_assoc, refl, ap, ◌∙◌, arith, sym}
-use Rattle.lazy_dfa.proofs.lemmas.Rows.{added_keeps, added_sound, added_states}
+use Rattle.std.proofs.Common.{◌≡◌, ◌+◌, slice_set, replicate, ◌∷◌, [], ◌++◌, length, append_assoc, refl, ap, ◌∙◌, arith}
+use Rattle.lazy_dfa.proofs.lemmas.Rows.{added_keeps, added_sound}
 use Rattle.lazy_dfa.proofs.rows.Rows.add.Goals as goal
 
 pub returns-clause-kept : goal.returns-clause-kept

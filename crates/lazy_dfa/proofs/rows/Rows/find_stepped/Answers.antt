@@ -1,4 +1,4 @@
-use Rattle.std.proofs.Common.{◌≡◌, ◌++◌, take, drop, arith, take-append-drop}
+use Rattle.std.proofs.Common.{◌≡◌, ◌++◌, take, drop, take-append-drop}
 use Rattle.byte_nfa.proofs.lemmas.Pass.{iff_trans, iff_sym}
 use Rattle.byte_nfa.specs.Runs.{AcceptsFrom}
 use Rattle.byte_nfa.specs.EarlyMatches.{half}

@@ -1,25 +1,8 @@
-use Rattle.std.proofs.Common.{◌≡◌, ℕ, ◌+◌, ◌<◌, [], true≢false, arith, refl, sym, ◌∙◌}
+use Rattle.std.proofs.Common.{◌+◌, true≢false, arith, sym, ◌∙◌}
 use Rattle.bit_sets.specs.Indexes.{has_index}
 use Rattle.byte_nfa.specs.EarlyMatches.{half}
 use Rattle.lazy_dfa.proofs.lemmas.Rows.{in_range}
 use Rattle.lazy_dfa.proofs.rows.Rows.finish.Goals as goal
-
-pub keep_ends-requires-clause-some : goal.keep_ends-requires-clause-some
-keep_ends-requires-clause-some c =
-    let h = half c.args.dfa.now.run in
-    let some = in_range 0 (h + h) (has_index c.read_row.new.pass.ends) _ c.is_some.result c.is_some.ensures (rw c.half-half.ensures at c.next_below.ensures) in
-    let (k, low, small, at) = some.0 c.if-is_some.true in
-    (k, small, (c.read_row.ensures.ends k small).0 at)
-
-pub returns-then-is_some-clause-some : goal.returns-then-is_some-clause-some
-returns-then-is_some-clause-some c = λ i (lt, is).
-    let h = half c.args.dfa.now.run in
-    let some = in_range 0 (h + h) (has_index c.read_row.new.pass.ends) _ c.is_some.result c.is_some.ensures (rw c.half-half.ensures at c.next_below.ensures) in
-    let (k, low, small, at) = some.0 c.if-is_some.true in
-    rw (sym (c.row_at-row.ensures i is)) (λ _. (k, small, (c.read_row.ensures.ends k small).0 at), λ _. refl)
-
-pub returns-then-is_some-clause-ends : goal.returns-then-is_some-clause-ends
-returns-then-is_some-clause-ends c = λ i (lt, is). rw (sym (c.row_at-row.ensures i is)) c.read_row.ensures.ends
 
 pub write-requires-clause-entry : goal.write-requires-clause-entry
 write-requires-clause-entry c =
@@ -40,6 +23,3 @@ returns-clause-some c = λ i (lt, is).
     let h = half c.args.dfa.now.run in
     let none = in_range 0 (h + h) (has_index c.read_row.new.pass.ends) _ c.is_some.result c.is_some.ensures (rw c.half-half.ensures at c.next_below.ensures) in
     rw (sym (c.row_at-row.ensures i is)) (λ t. absurd (true≢false (sym t)), λ (k, lt, a). absurd (true≢false (sym (none.1 (k, omega arith, lt, (c.read_row.ensures.ends k lt).1 a)) ∙ c.if-is_some.false)))
-
-pub returns-clause-ends : goal.returns-clause-ends
-returns-clause-ends c = λ i (lt, is). rw (sym (c.row_at-row.ensures i is)) c.read_row.ensures.ends

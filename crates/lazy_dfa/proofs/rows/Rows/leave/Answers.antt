@@ -1,8 +1,7 @@
-use Rattle.std.proofs.Common.{◌≡◌, ℕ, ◌+◌, ◌-◌, ◌<◌, ◌≤◌, ◌∷◌, length, slice_index, arith, refl, subst, sym, ◌∙◌}
+use Rattle.std.proofs.Common.{◌≡◌, ℕ, ◌+◌, ◌-◌, ◌<◌, ◌∷◌, length, arith, subst, sym, ◌∙◌}
 use Rattle.std.proofs.lemmas.Bool.{eqb-true}
 use Rattle.byte_nfa.proofs.lemmas.Pass.{iff_trans, iff_sym}
-use Rattle.byte_nfa.specs.Runs.{AcceptsIn}
-use Rattle.lazy_dfa.specs.inner.Rows.{IsEntry, GoesTo, KeepsRows}
+use Rattle.lazy_dfa.specs.inner.Rows.{GoesTo, KeepsRows}
 use Rattle.lazy_dfa.proofs.lemmas.Rows.{accepts_kept, at_kept, place_within, entry_by, keeps_then, marks_kept, marks_on, nothing_listed}
 use Rattle.lazy_dfa.proofs.rows.Rows.leave.Goals as goal
 

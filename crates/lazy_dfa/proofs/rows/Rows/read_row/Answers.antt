@@ -1,19 +1,10 @@
-use Rattle.std.proofs.Common.{◌≡◌, ◌∷◌, [], arith, subst, sym}
+use Rattle.std.proofs.Common.{◌≡◌, ◌∷◌, [], arith}
 use Rattle.byte_nfa.proofs.lemmas.Pass.{iff_trans, iff_sym}
-use Rattle.bit_sets.specs.StateSets.{state_capacity}
-use Rattle.bit_sets.specs.Numbers.{AreBelow}
 use Rattle.lazy_dfa.specs.inner.Rows.{states_of}
 use Rattle.byte_nfa.specs.Runs.{size}
 use Rattle.lazy_dfa.proofs.lemmas.Ordering.{accepts_same, below_same}
 use Rattle.lazy_dfa.proofs.lemmas.Rows.{accepts_loaded}
 use Rattle.lazy_dfa.proofs.rows.Rows.read_row.Goals as goal
-
-pub put_states-requires : goal.put_states-requires
-put_states-requires c =
-    let rows = c.args.self.now in
-    let same : c.states_at-states.result.now ≡ states_of rows c.args.row = rw (c.deref.ensures.value, c.deref-2.ensures.value) at c.states_at-states.ensures in
-    subst (AreBelow (state_capacity c.clear.new.self)) (sym same)
-    (λ i lt. let below = (c.requires.sound.lists c.args.row c.requires.row).below i lt in omega (arith, below, c.requires.fits.from, c.clear.ensures.room))
 
 pub returns-clause-steps : goal.returns-clause-steps
 returns-clause-steps c = λ y k.

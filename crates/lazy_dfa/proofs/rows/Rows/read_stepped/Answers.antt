@@ -1,4 +1,4 @@
-use Rattle.std.proofs.Common.{◌≡◌, ◌++◌, take, drop, arith, subst, sym, append_assoc, take-append-drop, ◌∙◌, ap, List, ℕ}
+use Rattle.std.proofs.Common.{◌≡◌, ◌++◌, take, drop, subst, sym, append_assoc, take-append-drop, ◌∙◌, ap, List, ℕ}
 use Rattle.byte_nfa.proofs.lemmas.Pass.{iff_trans, iff_sym}
 use Rattle.byte_nfa.specs.Runs.{AcceptsFrom}
 use Rattle.byte_nfa.specs.EarlyMatches.{half, FindsBy}

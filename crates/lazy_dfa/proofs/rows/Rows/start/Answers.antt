@@ -1,17 +1,7 @@
-use Rattle.std.proofs.Common.{◌≡◌, refl, subst, sym}
-use Rattle.std.specs.Prelude.{◌↔◌}
+use Rattle.std.proofs.Common.{◌≡◌, refl, sym}
 use Rattle.byte_nfa.proofs.lemmas.Pass.{iff_trans, iff_sym}
-use Rattle.byte_nfa.specs.Runs.{AcceptsIn}
-use Rattle.byte_nfa.specs.Steps.{IsReached}
-use Rattle.lazy_dfa.specs.inner.Dfa.{IsListOfStates}
 use Rattle.lazy_dfa.proofs.lemmas.Rows.{begun_sound}
 use Rattle.lazy_dfa.proofs.rows.Rows.start.Goals as goal
-
-pub returns-in-Some-clause-begins : goal.returns-in-Some-clause-begins
-returns-in-Some-clause-begins c = c.requires.begins c.in-Some.place c.in-Some.is
-
-pub seek-found-requires-clause-list : goal.seek-found-requires-clause-list
-seek-found-requires-clause-list c = subst (IsListOfStates c.args.dfa.now.run) (sym c.first.ensures) c.requires.dfa.first
 
 pub returns-clause-begins : goal.returns-clause-begins
 returns-clause-begins c =

@@ -6,16 +6,6 @@ use Rattle.byte_nfa.specs.EarlyMatches.{half}
 use Rattle.lazy_dfa.proofs.lemmas.Rows.{read_end}
 use Rattle.lazy_dfa.proofs.rows.Rows.tell_marks.Goals as goal
 
-pub tell_listed-requires-clause-list : goal.tell_listed-requires-clause-list
-tell_listed-requires-clause-list c =
-    let d = c.args.dfa.now in
-    let m = d.run in
-    let rows = c.args.self.now in
-    let (i, (lt, is)) = c.requires.row in
-    let e = c.entry_at-end.result in
-    let at = c.entry_at-end.ensures ∙ ap (λ l. slice_index l (c.args.place + c.class_count.result)) c.deref.ensures.value ∙ ap (λ p. slice_index rows.entries.items (p + c.class_count.result)) is ∙ ap (λ n. slice_index rows.entries.items (i * (d.class_count + 1) + n)) c.class_count.ensures.count in
-    rw (c.deref-2.ensures.value, c.half-half.ensures) ((read_end d rows i c.requires.sound lt e at (omega arith)).listed (omega arith)).list
-
 pub returns-clause-told : goal.returns-clause-told
 returns-clause-told c = λ i (lt, is) _ k.
     let d = c.args.dfa.now in

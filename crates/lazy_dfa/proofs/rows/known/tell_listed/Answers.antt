@@ -1,15 +1,15 @@
-use Rattle.std.proofs.Common.{◌≡◌, ℕ, ◌+◌, ◌<◌, ◌≤◌, ◌⊎◌, ◌∷◌, inl, inr, Some, List, length, slice_index, drop, IsTrue, true≢false, refl, ap, sym, arith, ◌∙◌}
+use Rattle.std.proofs.Common.{◌≡◌, ℕ, ◌+◌, ◌<◌, ◌≤◌, ◌⊎◌, ◌∷◌, inl, inr, Some, List, length, slice_index, drop, IsTrue, ap, sym, arith, ◌∙◌}
 use Rattle.std.specs.Prelude.{◌↔◌, ◌==◌}
 use Rattle.std.proofs.lemmas.Bool.{eq-eqb, eqb-true, or_cases}
-use Rattle.std.proofs.lemmas.List.{drop_all, drop_more}
+use Rattle.std.proofs.lemmas.List.{drop_more}
 use Rattle.std.proofs.Math.Logic.{⊎_elim}
-use Rattle.bit_sets.specs.Indexes.{has_index, index_capacity}
+use Rattle.bit_sets.specs.Indexes.{has_index}
 use Rattle.bit_sets.specs.Numbers.{has_number}
 use Rattle.byte_nfa.proofs.lemmas.Pass.{iff_trans, or_first, or_second}
 use Rattle.lazy_dfa.specs.inner.Lists.{list_at}
 use Rattle.byte_nfa.proofs.lemmas.Finding.{iff_beside}
 use Rattle.lazy_dfa.proofs.lemmas.Lists.{list_range}
-use Rattle.byte_nfa.proofs.lemmas.Told.{told_same, told_more, told_all}
+use Rattle.byte_nfa.proofs.lemmas.Told.{told_same, told_more}
 use Rattle.lazy_dfa.proofs.rows.known.tell_listed.Goals as goal
 use Rattle.lazy_dfa.proofs.rows.known.tell_listed.Goals.{then-index-lowest, else-index-lowest}
 
@@ -37,23 +37,6 @@ module _ (xs : List ℕ) (i x : ℕ) (lt : i < length xs) (is : x ≡ slice_inde
     λ r. one_of.1 (inl r),
   )
 
-pub loop-index-init : goal.loop-index-init
-loop-index-init c = record {
-  room = refl;
-  has = λ k. (λ h. h, λ h. h);
-}
-
-pub put-requires : goal.put-requires
-put-requires c =
-    let same = list_range c.args.numbers.now c.args.place in
-    let i = c.loop-index.index-index in
-    let lt : i < length (list_at c.args.numbers.now c.args.place) = omega (arith, ap length same, c.loop-index-test.true) in
-    let below = c.requires.list.below i lt in
-    let is = ap (λ l. slice_index l i) same in
-    ⊎_elim {C = c.told_by.result < index_capacity c.loop-index.into}
-    (λ (low, e). omega (arith, e, low, c.loop-index.invariant.room, c.requires.room))
-    (λ (high, e). omega (arith, e, is, below, c.loop-index.invariant.room, c.requires.room)) c.told_by.ensures
-
 pub loop-index-preserved : goal.loop-index-preserved
 loop-index-preserved c =
     let numbers = c.args.numbers.now in
@@ -77,11 +60,3 @@ loop-index-preserved c =
         has = λ k. iff_trans (inv.has k) (iff_beside (told_same c.args.half before c.args.lowest k after (λ j le lt'. other list i _ lt is j c.args.lowest (omega (arith, w.if-index-lowest.false)) le)));
       }
     ]
-
-pub returns-clause-has : goal.returns-clause-has
-returns-clause-has c = λ k.
-    let list = list_at c.args.numbers.now c.args.place in
-    let same = list_range c.args.numbers.now c.args.place in
-    let past = drop_all c.loop-index.index-index list (omega (arith, ap length same, c.loop-index-test.false)) in
-    told_all c.args.half (λ i. IsTrue (has_number i (drop c.loop-index.index-index list))) c.args.lowest k (has_index c.loop-index.into k)
-    (λ j le lt at. true≢false (sym at ∙ ap (has_number j) past)) (c.loop-index.invariant.has k)
