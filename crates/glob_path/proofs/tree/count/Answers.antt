@@ -11,20 +11,6 @@ overflow_add-count c =
     let q = from_anchor c.args.anchor c.args.path.now in
     omega (arith, here_within t c.loop-reading.node q c.loop-reading.at c.in-Some.reading.end c.in-Some.ensures.run, ap length c.in-Some.ensures.indexes, c.loop-reading.invariant.found, c.requires.fits)
 
-pub overflow_add-at : goal.overflow_add-at
-overflow_add-at c =
-    let t = c.args.tree.now in
-    let q = from_anchor c.args.anchor c.args.path.now in
-    let w = walk_child t c.loop-reading.node q c.loop-reading.at c.in-Some.reading.end c.in-Some-child.child c.in-Some.ensures.run (sym c.in-Some-child.is ∙ c.in-Some.ensures.child) in
-    omega (arith, w.1, length-from_anchor c.args.anchor c.args.path.now)
-
-pub loop-reading-smaller : goal.loop-reading-smaller
-loop-reading-smaller c =
-    let t = c.args.tree.now in
-    let q = from_anchor c.args.anchor c.args.path.now in
-    let w = walk_child t c.loop-reading.node q c.loop-reading.at c.in-Some.reading.end c.in-Some-child.child c.in-Some.ensures.run (sym c.in-Some-child.is ∙ c.in-Some.ensures.child) in
-    omega (arith, w.1, c.in-Some.ensures.run.1, length-from_anchor c.args.anchor c.args.path.now)
-
 pub loop-reading-preserved : goal.loop-reading-preserved
 loop-reading-preserved c =
     let t = c.args.tree.now in

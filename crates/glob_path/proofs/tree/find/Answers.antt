@@ -7,20 +7,6 @@ use Rattle.glob_path.proofs.lemmas.Anchors.{length-from_anchor}
 use Rattle.glob_path.proofs.lemmas.Walks.{walk_child, walk_stop, walk_short}
 use Rattle.glob_path.proofs.tree.find.Goals as goal
 
-pub overflow_add-at : goal.overflow_add-at
-overflow_add-at c =
-    let t = c.args.tree.now in
-    let q = from_anchor c.args.anchor c.args.path.now in
-    let w = walk_child t c.loop-reading.node q c.loop-reading.at c.in-Some.reading.end c.in-Some-child.child c.in-Some.ensures.run (sym c.in-Some-child.is ∙ c.in-Some.ensures.child) in
-    omega (arith, w.1, length-from_anchor c.args.anchor c.args.path.now)
-
-pub loop-reading-smaller : goal.loop-reading-smaller
-loop-reading-smaller c =
-    let t = c.args.tree.now in
-    let q = from_anchor c.args.anchor c.args.path.now in
-    let w = walk_child t c.loop-reading.node q c.loop-reading.at c.in-Some.reading.end c.in-Some-child.child c.in-Some.ensures.run (sym c.in-Some-child.is ∙ c.in-Some.ensures.child) in
-    omega (arith, w.1, c.in-Some.ensures.run.1, length-from_anchor c.args.anchor c.args.path.now)
-
 pub loop-reading-preserved : goal.loop-reading-preserved
 loop-reading-preserved c =
     let t = c.args.tree.now in

@@ -1,5 +1,4 @@
-use Rattle.std.proofs.Common.{◌+◌, Some, drop, get_or, refl, sym, ap, subst, ◌∙◌, MatchOption, arith}
-use Rattle.std.proofs.lemmas.List.{drop_all}
+use Rattle.std.proofs.Common.{◌+◌, Some, drop, get_or, sym, ap, subst, ◌∙◌, MatchOption, arith}
 use Rattle.glob_path.specs.inner.Anchors.{from_anchor}
 use Rattle.glob_path.specs.inner.Nodes.{after_run, HasRun, HasNoRun}
 use Rattle.glob_path.proofs.lemmas.Anchors.{length-from_anchor}
@@ -7,9 +6,6 @@ use Rattle.glob_path.proofs.lemmas.Runs.{run_on, run_ends, run_parts}
 use Rattle.glob_path.proofs.lemmas.Spans.{drop_at}
 use Rattle.glob_path.proofs.lemmas.Walks.{within_some}
 use Rattle.glob_path.proofs.tree.skip.Goals as goal
-
-pub loop-byte-init : goal.loop-byte-init
-loop-byte-init c = record { end = omega arith; rest = refl }
 
 pub returns-in_err-byte : goal.returns-in_err-byte
 returns-in_err-byte c =
@@ -46,9 +42,3 @@ loop-byte-preserved c =
           ∙ ap (λ r. after_run r (drop c.loop-byte.end q)) (drop_at run i 0 c.loop-byte-test.true)
           ∙ run_on (get_or run i 0) c.loop-byte.end (drop (i + 1) run) q (sym c.in_ok-byte.ensures ∙ ap Some c.if-branch-byte.false);
     }
-
-pub returns : goal.returns
-returns c =
-    let q = from_anchor c.args.anchor c.args.path.now in
-    let done = drop_all c.loop-byte.byte-index c.args.run.now (omega (arith, c.loop-byte-test.false)) in
-    (c.loop-byte.invariant.rest ∙ ap (λ r. after_run r (drop c.loop-byte.end q)) done, omega (arith, c.loop-byte.invariant.end, c.loop-byte-test.false))

@@ -1,38 +1,10 @@
-use Rattle.std.proofs.Common.{◌+◌, ◌++◌, map, drop, get_or, sym, subst, append-nil, arith}
-use Rattle.std.proofs.lemmas.List.{drop_all}
+use Rattle.std.proofs.Common.{◌+◌, ◌++◌, map, drop, get_or, sym, subst}
 use Rattle.glob_path.specs.declared.tree.Span.{Span}
 use Rattle.glob_path.specs.inner.Building.{rests_of, IsSpan, AreSpans, Stands}
 use Rattle.glob_path.proofs.lemmas.Ranges.{all_append}
 use Rattle.glob_path.proofs.lemmas.Spans.{drop_at}
 use Rattle.glob_path.proofs.lemmas.Standing.{stands_more}
 use Rattle.glob_path.proofs.tree.Tree.push_level.Goals as goal
-
-pub loop-span-init : goal.loop-span-init
-loop-span-init c =
-    let ts = c.args.texts.now in
-    let d = c.args.least in
-    let level = map (rests_of ts) c.args.level.now in
-    let empty = sym c.clear.ensures.items in
-    record {
-      stands = subst (λ xs. Stands ts c.args.self.now (level ++ map (rests_of ts) xs)) empty (subst (Stands ts c.args.self.now) (sym (append-nil level)) c.requires.stands);
-      left = c.requires.spans;
-      next = subst (AreSpans ts (d + 1)) empty tt;
-    }
-
-pub push_node-requires : goal.push_node-requires
-push_node-requires c =
-    let none : Span = record { from = 0; to = 0; depth = 0 } in
-    let here = drop_at c.args.level.now c.loop-span.span-index none c.loop-span-test.true in
-    (subst (AreSpans c.args.texts.now c.args.least) here c.loop-span.invariant.left).0
-
-pub returns : goal.returns
-returns c =
-    let ts = c.args.texts.now in
-    let done = drop_all c.loop-span.span-index c.args.level.now (omega (arith, c.loop-span-test.false)) in
-    record {
-      stands = subst (λ l. Stands ts c.loop-span.self (map (rests_of ts) l ++ map (rests_of ts) c.loop-span.next.items)) done c.loop-span.invariant.stands;
-      spans = c.loop-span.invariant.next;
-    }
 
 pub loop-span-preserved : goal.loop-span-preserved
 loop-span-preserved c =
